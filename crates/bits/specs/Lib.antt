@@ -1,0 +1,11 @@
+pub mod Digit
+pub mod Number
+pub mod Rotate
+pub mod Word
+pub mod Every
+pub mod Bytes
+pub mod BigEndian
+pub mod LittleEndian
+pub mod Xors
+pub mod Part
+pub mod Run
