@@ -1,0 +1,4 @@
+pub mod Fips202
+pub mod Agree
+pub mod Laws
+pub mod Lanes

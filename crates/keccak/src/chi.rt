@@ -1,0 +1,30 @@
+// χ: each bit is added the product of the two on its right, the first of them inverted.
+ghost use mathlib.Core.Path.{_≡_};
+ghost use Rattle.keccak.specs.Agree.{Agree};
+ghost use Rattle.keccak.specs.Fips202.{χ};
+ghost use Rattle.keccak.specs.Lanes.{arrayOf, five, chiLane};
+
+// One plane.
+fn mixed(p: [u16; 5]) -> [u16; 5]
+    ensures { λ r. ⌜ r ≡ five (chiLane p) ⌝ }
+{
+    [
+        p[0] ^ (!p[1] & p[2]),
+        p[1] ^ (!p[2] & p[3]),
+        p[2] ^ (!p[3] & p[4]),
+        p[3] ^ (!p[4] & p[0]),
+        p[4] ^ (!p[0] & p[1]),
+    ]
+}
+
+pub fn chi(a: [[u16; 5]; 5]) -> [[u16; 5]; 5]
+    ensures { λ r. ⌜ Agree (arrayOf r) (χ (arrayOf a)) ⌝ }
+{
+    [
+        mixed(a[0]),
+        mixed(a[1]),
+        mixed(a[2]),
+        mixed(a[3]),
+        mixed(a[4]),
+    ]
+}

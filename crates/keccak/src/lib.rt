@@ -1,0 +1,75 @@
+// Keccak-p[400] (FIPS 202) on five planes of five lanes, a lane of 16 bits, and on a buffer whose first 50 bytes are the state.
+// An internal crate: its functions may have a `requires`, which the library above meets.
+mod bytes;
+mod chi;
+mod iota;
+mod lane;
+mod rho_pi;
+mod theta;
+
+ghost use mathlib.Core.Path.{_≡_};
+ghost use mathlib.Core.List.{_++_};
+ghost use Prim.Native.Nat.{_+_, _≤_, _<_};
+ghost use lib.ListN.{length, drop};
+ghost use Rattle.bits.specs.Run.{rounds as Rounds, run as Run};
+ghost use Rattle.keccak.specs.Fips202.{keccakRound};
+ghost use Rattle.keccak.specs.Lanes.{bytesOf, lanesOf};
+
+// One round, of the round index `i`.
+pub fn round(a: [[u16; 5]; 5], i: u32) -> [[u16; 5]; 5]
+    requires { ⌜ i < 20 ⌝ }
+    ensures { λ r. ⌜ bytesOf r ≡ keccakRound i (bytesOf a) ⌝ }
+{
+    iota::iota(chi::chi(rho_pi::rho_pi(theta::theta(a))), i)
+}
+
+// The rounds of the indices from `from` on, `count` of them.
+pub fn run(a: [[u16; 5]; 5], from: u32, count: u32) -> [[u16; 5]; 5]
+    requires { ⌜ from + count ≤ 20 ⌝ }
+    ensures { λ r. ⌜ bytesOf r ≡ Rounds keccakRound from count (bytesOf a) ⌝ }
+{
+    let mut s = a;
+    let mut k: u32 = 0;
+    while k < count {
+        let t = round(s, from + k);
+        s = t;
+        k += 1;
+    }
+    s
+}
+
+// The lanes of the first 50 bytes of `s`.
+pub fn lanes_of(s: &[u8]) -> [[u16; 5]; 5]
+    requires { ⌜ 50 ≤ length (now s) ⌝ }
+    ensures { λ r. ⌜ r ≡ lanesOf (now (s .entry)) ⌝ }
+{
+    [
+        bytes::plane_at(s, 0),
+        bytes::plane_at(s, 10),
+        bytes::plane_at(s, 20),
+        bytes::plane_at(s, 30),
+        bytes::plane_at(s, 40),
+    ]
+}
+
+// The lanes `a` as the first 50 bytes of `s`.
+pub fn put_lanes(s: &mut [u8], a: [[u16; 5]; 5])
+    requires { ⌜ 50 ≤ length (now s) ⌝ }
+    ensures { λ _. ⌜ now (s .exit) ≡ bytesOf a ++ drop 50 (now (s .entry)) ⌝ }
+{
+    bytes::put_plane(s, 0, a[0]);
+    bytes::put_plane(s, 10, a[1]);
+    bytes::put_plane(s, 20, a[2]);
+    bytes::put_plane(s, 30, a[3]);
+    bytes::put_plane(s, 40, a[4]);
+}
+
+// The rounds of the indices from `from` on, `count` of them, on the first 50 bytes of `state`. What lies beyond is neither read nor changed.
+pub fn rounds(state: &mut [u8], from: u32, count: u32)
+    requires { ⌜ (50 ≤ length (now state)) × (from + count ≤ 20) ⌝ }
+    ensures { λ _. ⌜ now (state .exit) ≡ Run 50 keccakRound from count (now (state .entry)) ⌝ }
+{
+    let a = lanes_of(state);
+    let b = run(a, from, count);
+    put_lanes(state, b);
+}

@@ -1,0 +1,24 @@
+//! The second program: what the library computes, computed again from the papers, sharing nothing with the library's code.
+//! Slow and plain on purpose. It writes the inputs and the answers that the library's test programs are held to.
+
+mod ascon;
+mod keccak;
+mod permutations;
+
+use std::io::Write;
+
+const USAGE: &str = "usage: second permutations states|answers";
+
+fn main() {
+    let args: Vec<String> = std::env::args().skip(1).collect();
+    let words: Vec<&str> = args.iter().map(String::as_str).collect();
+    let output = match words.as_slice() {
+        ["permutations", "states"] => permutations::states(),
+        ["permutations", "answers"] => permutations::answers().into_bytes(),
+        _ => {
+            eprintln!("{USAGE}");
+            std::process::exit(2);
+        }
+    };
+    std::io::stdout().write_all(&output).expect("standard output takes the result");
+}

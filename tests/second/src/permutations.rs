@@ -1,0 +1,62 @@
+//! States for both permutations, and each after the round counts that the instances use.
+
+use crate::{ascon, keccak};
+
+/// Two bytes more than the larger permutation has: they must come back as they were.
+const STATE: usize = keccak::BYTES + 2;
+const STATES: usize = 32;
+
+/// A fixed sequence of numbers (splitmix64), so that every run writes the same file.
+struct Numbers(u64);
+
+impl Numbers {
+    fn next(&mut self) -> u64 {
+        self.0 = self.0.wrapping_add(0x9E37_79B9_7F4A_7C15);
+        let mut z = self.0;
+        z = (z ^ (z >> 30)).wrapping_mul(0xBF58_476D_1CE4_E5B9);
+        z = (z ^ (z >> 27)).wrapping_mul(0x94D0_49BB_1331_11EB);
+        z ^ (z >> 31)
+    }
+}
+
+/// All zeros, all ones, 0 1 2 .., a single bit at each end, then random bytes.
+pub fn states() -> Vec<u8> {
+    let mut numbers = Numbers(400);
+    let mut all = Vec::new();
+    for i in 0..STATES {
+        let mut state = [0u8; STATE];
+        match i {
+            0 => {}
+            1 => state.fill(0xFF),
+            2 => (0..STATE).for_each(|k| state[k] = k as u8),
+            3 => state[0] = 0x80,
+            4 => state[0] = 0x01,
+            5 => state[ascon::BYTES - 1] = 0x01,
+            6 => state[keccak::BYTES - 1] = 0x80,
+            _ => state.iter_mut().for_each(|byte| *byte = numbers.next() as u8),
+        }
+        all.extend(state);
+    }
+    all
+}
+
+fn line(name: &str, rounds: usize, permute: fn(&mut [u8], usize), state: &[u8]) -> String {
+    let mut state = state.to_vec();
+    permute(&mut state, rounds);
+    let hex: String = state.iter().map(|byte| format!("{byte:02x}")).collect();
+    format!("{name} {rounds} {hex}\n")
+}
+
+/// A line a state and round count: the permutation, the rounds, the whole state after them in hex.
+pub fn answers() -> String {
+    let mut lines = String::new();
+    for state in states().chunks(STATE) {
+        for rounds in [12, 8, 6, 1] {
+            lines += &line("ascon-p", rounds, ascon::permute, state);
+        }
+        for rounds in [20, 16, 12, 8, 1] {
+            lines += &line("keccak-p", rounds, keccak::permute, state);
+        }
+    }
+    lines
+}
