@@ -1,7 +1,7 @@
 -- The laws of Ascon-p that callers go by, so that no proof above opens the definitions: a round keeps 40 bytes, and a call is a run of
 -- such rounds (`bits`, `Run`), as words become bytes and come back unchanged.
 -- Assumes nothing.
-use mathlib.Core.Path.{_≡_, refl, sym, ap, ap₂, _∙_}
+use mathlib.Core.Path.{_≡_, refl, sym, ap, _∙_}
 use mathlib.Core.List.{List, _++_}
 use Prim.Native.Nat.{ℕ, zero, suc, _+_, _-_, _^_, _≤_, _<_}
 use native.Mathlib.Nat.{mod-eq-of-lt, min-eq-left}

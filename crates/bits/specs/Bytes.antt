@@ -3,7 +3,7 @@
 use mathlib.Core.List.{List, [], _∷_, _++_}
 use Prim.Native.Nat.{ℕ, zero, suc, _^_, _<_}
 use native.Mathlib.Nat.{zero-lt-suc, one-le-pow}
-use lib.ListN.{getD, take, drop}
+use lib.ListN.{getD, take, drop, replicate}
 
 -- every element is a byte. (`getD` past the end is 0, so no bound on the index is asked.)
 pub record Bytes (s : List ℕ) : Type 0 where
@@ -38,6 +38,10 @@ bytes-drop (suc n) {s = x ∷ s} h = bytes-drop n (tail-bytes h)
 pub bytes-append : {s t : List ℕ} → Bytes s → Bytes t → Bytes (s ++ t)
 bytes-append {s = []} h k = k
 bytes-append {s = x ∷ s} h k = cons-bytes (head-byte h) (bytes-append (tail-bytes h) k)
+
+pub bytes-zeros : (n : ℕ) → Bytes (replicate n 0)
+bytes-zeros zero = no-bytes
+bytes-zeros (suc n) = cons-bytes (zero-lt-suc 255) (bytes-zeros n)
 
 pub bytes-pos : (n : ℕ) → 0 < 256 ^ n
 bytes-pos n = one-le-pow n 256 (zero-lt-suc 255)

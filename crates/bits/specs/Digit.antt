@@ -1,7 +1,7 @@
 -- The binary digits of a number, as truth values: digit 0 is the lowest. The laws say what each operation of the machine does to one
 -- digit; at a width of w digits `!a` is `2 ^ w - 1 - a`, `a >> n` is `a / 2 ^ n` and `a << n` is `a * 2 ^ n % 2 ^ w`.
 -- Assumes nothing.
-use mathlib.Core.Path.{_≡_, refl, sym, ap, ap₂, _∙_}
+use mathlib.Core.Path.{_≡_, refl, sym, ap, _∙_}
 use mathlib.Core.Bool.{Bool, true, false, not, _&&_, _||_}
 use Prim.Native.Nat.{ℕ, zero, suc, _+_, _-_, _*_, _/_, _%_, _^_, _≤_, _<_, min, max}
 use native.Mathlib.Nat.{le-of-suc-le-suc, not-suc-le-zero, mod-lt, zero-lt-suc, mod-eq-of-lt, mul-mod-left, mul-assoc, div-eq-of-lt, lt-of-lt-of-le}

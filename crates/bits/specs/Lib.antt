@@ -2,10 +2,12 @@ pub mod Digit
 pub mod Number
 pub mod Rotate
 pub mod Word
+pub mod Pick
 pub mod Every
 pub mod Bytes
 pub mod BigEndian
 pub mod LittleEndian
 pub mod Xors
+pub mod Put
 pub mod Part
 pub mod Run

@@ -87,6 +87,17 @@ module _ {n : ℕ} {r : ℕ → List ℕ → List ℕ} (keeps : Keeps n r) where
   length-first : (s : List ℕ) → n ≤ length s → length (take n s) ≡ n
   length-first s l = length-take n s ∙ min-eq-left l
 
+  -- one round on a buffer
+  pub length-once : (i : ℕ) (s : List ℕ) → n ≤ length s → length (front n (r i) s) ≡ length s
+  unfolding front
+  length-once i s l =
+      length-append (r i (take n s)) (drop n s)
+      ∙ ap₂ (λ (x y : ℕ). x + y) (keeps .long i (take n s) (length-first s l)) (length-drop n s) ∙ add-sub-of-le l
+
+  pub bytes-once : (i : ℕ) (s : List ℕ) → n ≤ length s → Bytes s → Bytes (front n (r i) s)
+  unfolding front
+  bytes-once i s l h = bytes-append (keeps .bytes i (take n s) (length-first s l) (bytes-take n h)) (bytes-drop n h)
+
   -- the rounds are those of the first n bytes; the others stay
   pub run-front : (from k : ℕ) (s : List ℕ) → n ≤ length s → run n r from k s ≡ rounds r from k (take n s) ++ drop n s
   unfolding run front rounds turns

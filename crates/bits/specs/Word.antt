@@ -3,8 +3,7 @@
 -- Assumes nothing.
 use mathlib.Core.Path.{_≡_, refl, ap, ap₂, _∙_}
 use mathlib.Core.Bool.{Bool, not, _&&_}
-use Prim.Native.Nat.{ℕ, _+_, _-_, _%_, _^_, _<_}
-use native.Mathlib.Nat.{mod-lt}
+use Prim.Native.Nat.{ℕ, _-_, _^_, _<_}
 use lib.Pow.{ones-sub-lt}
 use lib.Bits.{bitAnd, bitXor, and-lt, xor-lt}
 use Rattle.bits.specs.Digit.{bit, bit-xor, bit-and, bit-not, _⊕_}

@@ -1,6 +1,6 @@
 -- Two state arrays that agree, having the same bits at x, y < 5 and z < 16, are one state; a round takes them to arrays that agree.
 -- Assumes nothing.
-use mathlib.Core.Path.{_≡_, ap, ap₂, _∙_}
+use mathlib.Core.Path.{_≡_, sym, ap, ap₂, _∙_}
 use mathlib.Core.Bool.{Bool, true, _&&_}
 use Prim.Native.Nat.{ℕ, zero, suc, _+_, _*_, _-_, _%_, _<_}
 use native.Mathlib.Nat.{mod-lt, zero-lt-suc}
@@ -15,7 +15,11 @@ pub agree-trans : (A B E : StateArray) → Agree A B → Agree B E → Agree A E
 unfolding Agree
 agree-trans A B E p q x y z hx hy hz = p x y z hx hy hz ∙ q x y z hx hy hz
 
-mod5 : (n : ℕ) → n % 5 < 5
+pub agree-sym : (A B : StateArray) → Agree A B → Agree B A
+unfolding Agree
+agree-sym A B p x y z hx hy hz = sym (p x y z hx hy hz)
+
+pub mod5 : (n : ℕ) → n % 5 < 5
 mod5 n = mod-lt n (zero-lt-suc 4)
 
 mod16 : (n : ℕ) → n % 16 < 16
@@ -29,27 +33,27 @@ module _ (A B : StateArray) (h : Agree A B) where
       let at : (y : ℕ) → y < 5 → A x y z ≡ B x y z = λ y hy. h x y z hx hy hz in
       λ i. at 0 (lit< tt) i ⊕ at 1 (lit< tt) i ⊕ at 2 (lit< tt) i ⊕ at 3 (lit< tt) i ⊕ at 4 (lit< tt) i
 
-  pub θ-same : Agree (θ A) (θ B)
+  θ-same : Agree (θ A) (θ B)
   unfolding θ D Agree
   θ-same x y z hx hy hz =
       ap₂ _⊕_ (h x y z hx hy hz)
       (ap₂ _⊕_ (C-same ((x + 4) % 5) z (mod5 (x + 4)) hz) (C-same ((x + 1) % 5) ((z + 15) % 16) (mod5 (x + 1)) (mod16 (z + 15))))
 
-  pub ρ-same : Agree (ρ A) (ρ B)
+  ρ-same : Agree (ρ A) (ρ B)
   unfolding ρ Agree
   ρ-same x y z hx hy hz = h x y ((z + (16 - offset x y % 16)) % 16) hx hy (mod16 (z + (16 - offset x y % 16)))
 
-  pub π-same : Agree (π A) (π B)
+  π-same : Agree (π A) (π B)
   unfolding π Agree
   π-same x y z hx hy hz = h ((x + 3 * y) % 5) x z (mod5 (x + 3 * y)) hx hz
 
-  pub χ-same : Agree (χ A) (χ B)
+  χ-same : Agree (χ A) (χ B)
   unfolding χ Agree
   χ-same x y z hx hy hz =
       ap₂ _⊕_ (h x y z hx hy hz)
       (ap₂ (λ (a b : Bool). (a ⊕ true) && b) (h ((x + 1) % 5) y z (mod5 (x + 1)) hy hz) (h ((x + 2) % 5) y z (mod5 (x + 2)) hy hz))
 
-  pub ι-same : (i : ℕ) → Agree (ι i A) (ι i B)
+  ι-same : (i : ℕ) → Agree (ι i A) (ι i B)
   unfolding ι Agree
   ι-same i zero zero z hx hy hz = ap (λ (b : Bool). b ⊕ RC i z) (h 0 0 z hx hy hz)
   ι-same i zero (suc y) z hx hy hz = h zero (suc y) z hx hy hz

@@ -58,18 +58,10 @@ parityLane a x = bitXor (bitXor (bitXor (bitXor (lane a x 0) (lane a x 1)) (lane
 abbrev pub effectLane : List ℕ → ℕ → ℕ
 effectLane c x = bitXor (at c ((x + 4) % 5)) (rotl 16 1 (at c ((x + 1) % 5)))
 
--- ρ and π: the lanes of plane y, from where they come, and each turned
-abbrev pub movedPlane : List (List ℕ) → ℕ → List ℕ
-movedPlane a y =
-    lane a (3 * y % 5) 0 ∷ lane a ((3 * y + 1) % 5) 1 ∷ lane a ((3 * y + 2) % 5) 2 ∷ lane a ((3 * y + 3) % 5) 3 ∷ lane a ((3 * y + 4) % 5) 4 ∷ []
-
+-- ρ: each lane turned by its own number
 abbrev pub turnedLane : List ℕ → List ℕ → ℕ → ℕ
 turnedLane p by x = rotl 16 (at by x) (at p x)
 
 -- χ
 abbrev pub chiLane : List ℕ → ℕ → ℕ
 chiLane p x = bitXor (at p x) (bitAnd (65535 - at p ((x + 1) % 5)) (at p ((x + 2) % 5)))
-
--- ι: the round constant k added to the first lane of the first plane
-abbrev pub iotaPlane : List ℕ → ℕ → List ℕ
-iotaPlane p k = bitXor (at p 0) k ∷ at p 1 ∷ at p 2 ∷ at p 3 ∷ at p 4 ∷ []

@@ -1,8 +1,8 @@
 -- The laws of Keccak-p[400] that callers go by: a run of rounds may be kept in bytes between any two of them, and the bytes stay fifty
 -- bytes. Also that table 2 of FIPS 202 is what its algorithm 2 walks.
 -- Assumes nothing.
-use mathlib.Core.Path.{_≡_, refl, sym, ap, ap₂, _∙_}
-use mathlib.Core.Bool.{true}
+use mathlib.Core.Path.{_≡_, refl, sym, ap, _∙_}
+use mathlib.Core.Bool.{Bool, true, _&&_}
 use mathlib.Core.List.{List}
 use Prim.Native.Nat.{ℕ, zero, suc, _+_, _-_, _*_, _/_, _%_, _<_}
 use native.Mathlib.Nat.{mod-eq-of-lt, not-suc-le-zero, le-of-suc-le-suc}
@@ -10,13 +10,15 @@ use native.Mathlib.Omega.{arith}
 use lib.Dec.{eqb}
 use lib.ListN.{length, getD}
 use lib.Seq.{ext-getD}
+use borrow.Author.Tests.{eqb-true}
 use Rattle.bits.specs.Digit.{bit}
-use Rattle.bits.specs.Number.{number, number-lt, number-cong, number-bits, bit-number}
-use Rattle.bits.specs.Every.{every}
+use Rattle.bits.specs.Number.{number-lt, number-cong, number-bits, bit-number}
+use Rattle.bits.specs.Every.{every, every-at}
+use Rattle.bits.specs.Pick.{pick}
 use Rattle.bits.specs.Bytes.{Bytes, no-bytes, cons-bytes}
 use Rattle.bits.specs.Run.{rounds, rounds-none, rounds-more, Keeps}
 use Rattle.keccak.specs.Fips202.{StateArray, offsets, offset, Rnd, stringBit, ofBytes, arrayBit, arrayByte, table, toBytes, keccakP, keccakRound}
-use Rattle.keccak.specs.Agree.{Agree, agree-trans, round-same}
+use Rattle.keccak.specs.Agree.{Agree, round-same}
 
 -- ---- tables
 
@@ -44,11 +46,11 @@ is-table n f s l h =
 
 -- ---- bytes and state arrays
 
-pub length-toBytes : (A : StateArray) → length (toBytes A) ≡ 50
+length-toBytes : (A : StateArray) → length (toBytes A) ≡ 50
 unfolding toBytes
 length-toBytes A = length-table 50 (arrayByte A)
 
-pub bytes-toBytes : (A : StateArray) → Bytes (toBytes A)
+bytes-toBytes : (A : StateArray) → Bytes (toBytes A)
 unfolding toBytes arrayByte
 bytes-toBytes A = bytes-table 50 (arrayByte A) (λ j. number-lt 8 (λ k. arrayBit A (8 * j + k)))
 
@@ -112,12 +114,25 @@ keccakP-rounds r s l h = run-of-rounds (20 - r) r s l h
 
 -- ---- table 2
 
--- algorithm 2's walk from (1, 0): where it stands at step t
+-- where algorithm 2 stands at step t: it walks from (1, 0)
 unfoldable pub walk : ℕ → ℕ × ℕ
 walk zero = (1, 0)
 walk (suc t) = let p = walk t in (p .1, (2 * p .0 + 3 * p .1) % 5)
 
--- the offset there is (t + 1)(t + 2) / 2
-pub table-2 : every 24 (λ t. eqb (offset (walk t .0) (walk t .1)) ((t + 1) * (t + 2) / 2)) ≡ true
-unfolding every walk offset offsets
-table-2 = refl
+-- the offset that its first n steps give the lane at (x, y): (t + 1)(t + 2) / 2 at step t, and 0 where no step comes, as at (0, 0)
+unfoldable pub walked : (n x y : ℕ) → ℕ
+walked zero x y = 0
+walked (suc t) x y = pick (eqb x (walk t .0) && eqb y (walk t .1)) ((t + 1) * (t + 2) / 2) (walked t x y)
+
+same-offset : ℕ → ℕ → Bool
+same-offset x y = eqb (offset x y) (walked 24 x y)
+
+all-offsets : every 5 (λ x. every 5 (same-offset x)) ≡ true
+unfolding every same-offset walked walk offset offsets
+all-offsets = refl
+
+-- the offsets of table 2 are those of algorithm 2
+pub table-2 : (x y : ℕ) → x < 5 → y < 5 → offset x y ≡ walked 24 x y
+unfolding same-offset
+table-2 x y hx hy =
+    eqb-true (offset x y) (walked 24 x y) (every-at 5 (same-offset x) (every-at 5 (λ x. every 5 (same-offset x)) all-offsets x hx) y hy)

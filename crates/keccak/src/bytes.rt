@@ -1,12 +1,14 @@
 // A plane of lanes as ten bytes of a slice, and back. A lane's low byte comes first.
 ghost use mathlib.Core.Path.{_≡_};
-ghost use mathlib.Core.List.{_++_};
-ghost use Prim.Native.Nat.{_+_, _*_, _≤_};
+ghost use mathlib.Core.List.{[], _∷_, _++_};
+ghost use Prim.Native.Nat.{_+_, _≤_};
 ghost use lib.ListN.{length, take, drop};
+ghost use Rattle.bits.specs.LittleEndian.{leBytes, fromLe};
 ghost use Rattle.keccak.specs.Lanes.{laneAt, planeAt, planeBytes};
 
+// Two bytes as a lane.
 fn joined(low: u8, high: u8) -> u16
-    ensures { λ r. ⌜ r ≡ high * 256 + low ⌝ }
+    ensures { λ r. ⌜ r ≡ fromLe (low ∷ high ∷ []) ⌝ }
 {
     (high as u16) * 256 + (low as u16)
 }
@@ -33,19 +35,23 @@ pub fn plane_at(s: &[u8], i: usize) -> [u16; 5]
     ]
 }
 
+// The two bytes of the lane `v` put at `i`.
+fn put_lane(s: &mut [u8], i: usize, v: u16)
+    requires { ⌜ i + 2 ≤ length (now s) ⌝ }
+    ensures { λ _. ⌜ now (s .exit) ≡ take i (now (s .entry)) ++ (leBytes 2 v ++ drop (i + 2) (now (s .entry))) ⌝ }
+{
+    s[i] = (v % 256) as u8;
+    s[i + 1] = (v / 256 % 256) as u8;
+}
+
 // The ten bytes of the plane `p` put at `i`.
 pub fn put_plane(s: &mut [u8], i: usize, p: [u16; 5])
     requires { ⌜ i + 10 ≤ length (now s) ⌝ }
     ensures { λ _. ⌜ now (s .exit) ≡ take i (now (s .entry)) ++ (planeBytes p ++ drop (i + 10) (now (s .entry))) ⌝ }
 {
-    s[i] = (p[0] % 256) as u8;
-    s[i + 1] = (p[0] / 256 % 256) as u8;
-    s[i + 2] = (p[1] % 256) as u8;
-    s[i + 3] = (p[1] / 256 % 256) as u8;
-    s[i + 4] = (p[2] % 256) as u8;
-    s[i + 5] = (p[2] / 256 % 256) as u8;
-    s[i + 6] = (p[3] % 256) as u8;
-    s[i + 7] = (p[3] / 256 % 256) as u8;
-    s[i + 8] = (p[4] % 256) as u8;
-    s[i + 9] = (p[4] / 256 % 256) as u8;
+    put_lane(s, i, p[0]);
+    put_lane(s, i + 2, p[1]);
+    put_lane(s, i + 4, p[2]);
+    put_lane(s, i + 6, p[3]);
+    put_lane(s, i + 8, p[4]);
 }

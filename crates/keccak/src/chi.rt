@@ -8,12 +8,17 @@ ghost use Rattle.keccak.specs.Lanes.{arrayOf, five, chiLane};
 fn mixed(p: [u16; 5]) -> [u16; 5]
     ensures { λ r. ⌜ r ≡ five (chiLane p) ⌝ }
 {
+    let a = p[0];
+    let b = p[1];
+    let c = p[2];
+    let d = p[3];
+    let e = p[4];
     [
-        p[0] ^ (!p[1] & p[2]),
-        p[1] ^ (!p[2] & p[3]),
-        p[2] ^ (!p[3] & p[4]),
-        p[3] ^ (!p[4] & p[0]),
-        p[4] ^ (!p[0] & p[1]),
+        a ^ (!b & c),
+        b ^ (!c & d),
+        c ^ (!d & e),
+        d ^ (!e & a),
+        e ^ (!a & b),
     ]
 }
 

@@ -4,7 +4,7 @@ ghost use Prim.Native.Nat.{ℕ, _<_};
 ghost use Rattle.bits.specs.Digit.{bit};
 ghost use Rattle.keccak.specs.Agree.{Agree};
 ghost use Rattle.keccak.specs.Fips202.{RC, ι};
-ghost use Rattle.keccak.specs.Lanes.{arrayOf, iotaPlane};
+ghost use Rattle.keccak.specs.Lanes.{arrayOf};
 
 // The constants of the twenty round indices.
 const CONSTANTS: [u16; 20] = [
@@ -38,16 +38,11 @@ pub fn round_constant(i: u32) -> u16
     CONSTANTS[i as usize]
 }
 
-// The constant `k` added to the first lane of a plane.
-fn added(p: [u16; 5], k: u16) -> [u16; 5]
-    ensures { λ r. ⌜ r ≡ iotaPlane p k ⌝ }
-{
-    [p[0] ^ k, p[1], p[2], p[3], p[4]]
-}
-
 pub fn iota(a: [[u16; 5]; 5], i: u32) -> [[u16; 5]; 5]
     requires { ⌜ i < 20 ⌝ }
     ensures { λ r. ⌜ Agree (arrayOf r) (ι i (arrayOf a)) ⌝ }
 {
-    [added(a[0], round_constant(i)), a[1], a[2], a[3], a[4]]
+    let mut b = a;
+    b[0][0] ^= round_constant(i);
+    b
 }

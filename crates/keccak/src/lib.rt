@@ -1,5 +1,6 @@
-// Keccak-p[400] (FIPS 202) on five planes of five lanes, a lane of 16 bits, and on a buffer whose first 50 bytes are the state.
-// An internal crate: its functions may have a `requires`, which the library above meets.
+// Keccak-p[400]: the state in five planes of five lanes of 16 bits, a round on it, and a run of rounds on the state's bytes.
+// Internal: the library above calls it, and meets each `requires`; a host does not see it.
+// What a reader must believe is specs/Fips202.antt, where each step mapping is defined bit by bit.
 mod bytes;
 mod chi;
 mod iota;
@@ -31,6 +32,7 @@ pub fn run(a: [[u16; 5]; 5], from: u32, count: u32) -> [[u16; 5]; 5]
     let mut s = a;
     let mut k: u32 = 0;
     while k < count {
+        // two steps: `s = round(..)` is not covered for an array of arrays
         let t = round(s, from + k);
         s = t;
         k += 1;
@@ -52,7 +54,7 @@ pub fn lanes_of(s: &[u8]) -> [[u16; 5]; 5]
     ]
 }
 
-// The lanes `a` as the first 50 bytes of `s`.
+// The first 50 bytes of `s` replaced by those of the lanes `a`.
 pub fn put_lanes(s: &mut [u8], a: [[u16; 5]; 5])
     requires { ⌜ 50 ≤ length (now s) ⌝ }
     ensures { λ _. ⌜ now (s .exit) ≡ bytesOf a ++ drop 50 (now (s .entry)) ⌝ }
@@ -64,7 +66,7 @@ pub fn put_lanes(s: &mut [u8], a: [[u16; 5]; 5])
     bytes::put_plane(s, 40, a[4]);
 }
 
-// The rounds of the indices from `from` on, `count` of them, on the first 50 bytes of `state`. What lies beyond is neither read nor changed.
+// The same rounds on the first 50 bytes of `state`; what lies beyond is neither read nor changed.
 pub fn rounds(state: &mut [u8], from: u32, count: u32)
     requires { ⌜ (50 ≤ length (now state)) × (from + count ≤ 20) ⌝ }
     ensures { λ _. ⌜ now (state .exit) ≡ Run 50 keccakRound from count (now (state .entry)) ⌝ }

@@ -29,12 +29,17 @@ fn parities(a: [[u16; 5]; 5]) -> [u16; 5]
 fn effects(c: [u16; 5]) -> [u16; 5]
     ensures { λ r. ⌜ r ≡ five (effectLane c) ⌝ }
 {
+    let c0 = c[0];
+    let c1 = c[1];
+    let c2 = c[2];
+    let c3 = c[3];
+    let c4 = c[4];
     [
-        c[4] ^ lane::turned(c[1], 1),
-        c[0] ^ lane::turned(c[2], 1),
-        c[1] ^ lane::turned(c[3], 1),
-        c[2] ^ lane::turned(c[4], 1),
-        c[3] ^ lane::turned(c[0], 1),
+        c4 ^ lane::turned(c1, 1),
+        c0 ^ lane::turned(c2, 1),
+        c1 ^ lane::turned(c3, 1),
+        c2 ^ lane::turned(c4, 1),
+        c3 ^ lane::turned(c0, 1),
     ]
 }
 

@@ -1,1 +1,2 @@
 pub mod AsconKnown
+pub mod KeccakKnown

@@ -9,15 +9,19 @@ fn wide(b: u8) -> u64 {
     b as u64
 }
 
-// The rounds, the state in hex, and the line's end.
-fn show(count: u32, s: [u8; 52]) {
-    io::print_decimal(STDOUT_FILENO, count as u64);
-    io::write_all(STDOUT_FILENO, b" ");
+fn hex(s: [u8; 52]) {
     let mut i: usize = 0;
     while i < 52 {
         io::print_hex(STDOUT_FILENO, wide(s[i]), 2);
         i += 1;
     }
+}
+
+// The rounds, the state in hex, and the line's end.
+fn show(count: u32, s: [u8; 52]) {
+    io::print_decimal(STDOUT_FILENO, count as u64);
+    io::write_all(STDOUT_FILENO, b" ");
+    hex(s);
     io::write_all(STDOUT_FILENO, b"\n");
 }
 

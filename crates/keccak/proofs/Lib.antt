@@ -1,0 +1,5 @@
+pub mod Five
+pub mod Owned
+pub mod Written
+pub mod StepLaws
+pub mod ByteLaws

@@ -1,0 +1,20 @@
+-- `keccak::iota::iota` meets its contract: the store into the first lane, by the law of ι.
+-- Assumes nothing.
+use mathlib.Core.Path.{_≡_}
+use native.Mathlib.Omega.{arith}
+use lib.Dec.{lit<}
+use lib.ListN.{length}
+use Rattle.keccak.proofs.Owned.{five-planes, five-lanes}
+use Rattle.keccak.proofs.StepLaws.{iota-bits}
+use Rattle.keccak.proofs.iota.iota.Statement.{statement}
+use Rattle.keccak.proofs.iota.iota.Tie as tie
+
+returns : tie.Need-returns
+returns c =
+    let s = c .before .before in
+    let l : length (s .args .a) ≡ 5 = five-planes (s .args .a) _ (s .good .0) in
+    iota-bits (s .args .a) (c .before .round-constant .result) (s .args .i) l
+    (five-lanes (s .args .a) _ (s .good .0) 0 (omega (arith, l))) (c .before .round-constant .ensures)
+
+pub iota-spec : {M : Type 1} → statement M
+iota-spec = tie.close (tie.spec (λ c κs. c .pre) (λ c. lit< tt) (λ c. lit< tt) (λ c. lit< tt) (λ c. lit< tt) returns)
