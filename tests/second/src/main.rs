@@ -2,12 +2,15 @@
 //! Slow and plain on purpose. It writes the inputs and the answers that the library's test programs are held to.
 
 mod ascon;
+mod instances;
 mod keccak;
+mod numbers;
 mod permutations;
+mod plan;
 
 use std::io::Write;
 
-const USAGE: &str = "usage: second permutations states|answers";
+const USAGE: &str = "usage: second permutations states|answers, or second plan rows|many requests|lines";
 
 fn main() {
     let args: Vec<String> = std::env::args().skip(1).collect();
@@ -15,6 +18,10 @@ fn main() {
     let output = match words.as_slice() {
         ["permutations", "states"] => permutations::states(),
         ["permutations", "answers"] => permutations::answers().into_bytes(),
+        ["plan", "rows", "requests"] => plan::rows_requests(),
+        ["plan", "rows", "lines"] => plan::rows_lines().into_bytes(),
+        ["plan", "many", "requests"] => plan::many_requests(),
+        ["plan", "many", "lines"] => plan::many_lines().into_bytes(),
         _ => {
             eprintln!("{USAGE}");
             std::process::exit(2);

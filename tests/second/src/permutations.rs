@@ -1,27 +1,15 @@
 //! States for both permutations, and each after the round counts that the instances use.
 
+use crate::numbers::Numbers;
 use crate::{ascon, keccak};
 
 /// Two bytes more than the larger permutation has: they must come back as they were.
 const STATE: usize = keccak::BYTES + 2;
 const STATES: usize = 32;
 
-/// A fixed sequence of numbers (splitmix64), so that every run writes the same file.
-struct Numbers(u64);
-
-impl Numbers {
-    fn next(&mut self) -> u64 {
-        self.0 = self.0.wrapping_add(0x9E37_79B9_7F4A_7C15);
-        let mut z = self.0;
-        z = (z ^ (z >> 30)).wrapping_mul(0xBF58_476D_1CE4_E5B9);
-        z = (z ^ (z >> 27)).wrapping_mul(0x94D0_49BB_1331_11EB);
-        z ^ (z >> 31)
-    }
-}
-
 /// All zeros, all ones, 0 1 2 .., a single bit at each end, then random bytes.
 pub fn states() -> Vec<u8> {
-    let mut numbers = Numbers(400);
+    let mut numbers = Numbers::new(400);
     let mut all = Vec::new();
     for i in 0..STATES {
         let mut state = [0u8; STATE];

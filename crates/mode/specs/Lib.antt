@@ -1,0 +1,13 @@
+pub mod Strings
+pub mod StringLaws
+pub mod Params
+pub mod Paper
+pub mod PaperLaws
+pub mod Parts
+pub mod Counts
+pub mod Calls
+pub mod Ends
+pub mod Theorems
+pub mod Kept
+pub mod Instances
+pub mod Checked

@@ -1,0 +1,4 @@
+// The planning program on an empty input.
+fn main() {
+    planning::run();
+}

@@ -1,0 +1,4 @@
+// The planning program on 10,000 requests in one input.
+fn main() {
+    planning::run();
+}

@@ -1,0 +1,25 @@
+-- `planning::answer_all` is safe and ends: the measure is the number of turns that are left.
+-- Assumes nothing.
+use native.Mathlib.Omega.{arith}
+use Rattle.planning.proofs.answer_all.Statement.{statement}
+use Rattle.planning.proofs.answer_all.Tie as tie
+
+abbrev Inv-loop : tie.InvT-loop
+Inv-loop turns₀ turns = Unit {0}
+
+abbrev μ-loop : tie.MeasureT-loop
+μ-loop turns₀ turns = turns
+
+pub answer-all-spec : {M : Type 1} → statement M
+answer-all-spec =
+    tie.close
+    (tie.spec
+    Inv-loop
+    μ-loop
+    (λ c. tt)
+    (λ c κs. tt)
+    (λ c. omega arith)
+    (λ c. omega arith)
+    (λ c. tt)
+    (λ c. tt)
+    (λ c. tt))

@@ -1,0 +1,9 @@
+pub mod Stopped
+pub mod Rows
+pub mod Parts
+pub mod Places
+pub mod Kept
+pub mod Course
+pub mod Follows
+pub mod Chunks
+pub mod Halts

@@ -1,0 +1,138 @@
+//! The planning program's requests and lines. Rounds are counted call by call along the algorithms, not by the formulas.
+
+use crate::instances::{Instance, INSTANCES};
+use crate::numbers::Numbers;
+
+const HEADING: &str = "instance assoc text verify total\n";
+const MOST_ASSOC: usize = 256;
+const MOST_TEXT: usize = 4096;
+
+/// The rounds of the calls of a re-keying: pK, then pB after each bit but the last, pK after that.
+fn rekeying(i: &Instance) -> usize {
+    let mut rounds = i.s_k;
+    for bit in 0..128 {
+        rounds += if bit < 127 { i.s_b } else { i.s_k };
+    }
+    rounds
+}
+
+/// The blocks of a padded string, counted by filling them.
+fn padded_blocks(i: &Instance, length: usize) -> usize {
+    let mut bytes = length + 1;
+    while bytes % i.block != 0 {
+        bytes += 1;
+    }
+    bytes / i.block
+}
+
+pub fn verification(i: &Instance, assoc: usize, text: usize) -> usize {
+    let start = i.s_h;
+    let blocks = padded_blocks(i, assoc) + padded_blocks(i, text);
+    let tag = i.s_h;
+    start + blocks * i.s_h + rekeying(i) + tag
+}
+
+pub fn encryption(i: &Instance, text: usize) -> usize {
+    let mut left = text;
+    let mut rounds = if left > 0 { rekeying(i) } else { 0 };
+    while left > 0 {
+        rounds += i.s_e;
+        left -= left.min(i.block);
+    }
+    rounds
+}
+
+type Request = (u8, u16, u16);
+
+fn line(request: Request) -> String {
+    let (number, a, m) = (request.0 as usize, request.1 as usize, request.2 as usize);
+    let answer = if !(1..=4).contains(&number) {
+        "refused 1".to_string()
+    } else if a > MOST_ASSOC {
+        "refused 4".to_string()
+    } else if m > MOST_TEXT {
+        "refused 5".to_string()
+    } else {
+        let instance = &INSTANCES[number - 1];
+        let verify = verification(instance, a, m);
+        format!("{} {}", verify, verify + encryption(instance, m))
+    };
+    format!("{number} {a} {m} {answer}\n")
+}
+
+/// The ten cases of document 01, then each refusal, alone and before a later one.
+const ROWS: [Request; 20] = [
+    (1, 0, 0),
+    (1, 0, 7),
+    (1, 1, 8),
+    (1, 0, 9),
+    (2, 0, 0),
+    (2, 256, 4096),
+    (3, 17, 17),
+    (3, 18, 18),
+    (4, 0, 0),
+    (4, 256, 4096),
+    (0, 0, 0),
+    (5, 0, 0),
+    (255, 65535, 65535),
+    (1, 257, 0),
+    (1, 0, 4097),
+    (1, 257, 4097),
+    (5, 257, 4097),
+    (4, 65535, 65535),
+    (3, 256, 4096),
+    (1, 256, 4096),
+];
+
+/// After the rows, a request of which one byte is missing.
+const CUT: [u8; 4] = [2, 0, 0, 0];
+
+/// Lengths near multiples of both block lengths, at the limits and beyond them, and any.
+fn many() -> Vec<Request> {
+    let mut numbers = Numbers::new(16);
+    let mut length = |most: u64| -> u16 {
+        let edge = match numbers.next() % 8 {
+            0 => 8 * (numbers.next() % (most / 8)) + numbers.next() % 3,
+            1 => 18 * (numbers.next() % (most / 18)) + numbers.next() % 3,
+            2 => most + numbers.next() % 3,
+            3 => numbers.next() % 65536,
+            _ => numbers.next() % (most + 1),
+        };
+        edge.saturating_sub(1).min(65535) as u16
+    };
+    let lengths: Vec<(u16, u16)> = (0..10_000).map(|_| (length(256), length(4096))).collect();
+    let mut numbers = Numbers::new(17);
+    lengths.into_iter().map(|(a, m)| ((numbers.next() % 6) as u8, a, m)).collect()
+}
+
+fn bytes(requests: &[Request]) -> Vec<u8> {
+    let mut all = Vec::new();
+    for (instance, a, m) in requests {
+        all.push(*instance);
+        all.extend(a.to_be_bytes());
+        all.extend(m.to_be_bytes());
+    }
+    all
+}
+
+fn lines(requests: &[Request]) -> String {
+    requests.iter().fold(HEADING.to_string(), |text, request| text + &line(*request))
+}
+
+pub fn rows_requests() -> Vec<u8> {
+    let mut all = bytes(&ROWS);
+    all.extend(CUT);
+    all
+}
+
+pub fn rows_lines() -> String {
+    lines(&ROWS) + "cut short\n"
+}
+
+pub fn many_requests() -> Vec<u8> {
+    bytes(&many())
+}
+
+pub fn many_lines() -> String {
+    lines(&many())
+}
