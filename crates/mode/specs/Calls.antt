@@ -5,6 +5,7 @@ use mathlib.Core.Path.{_≡_, refl, sym, ap, ap₂, _∙_}
 use mathlib.Core.Bool.{Bool}
 use mathlib.Core.List.{List, _++_, append-assoc}
 use Prim.Native.Nat.{ℕ, zero, suc, _+_, _-_, _*_, _≤_}
+use native.Mathlib.Nat.{add-assoc}
 use native.Mathlib.Omega.{arith}
 use lib.ListN.{length, take, drop, replicate, length-append, length-drop, length-replicate}
 use lib.Seq.{take-at, drop-at, length-take-le, take-append-le}
@@ -35,6 +36,14 @@ module _ (p : Params) where
       → turns (λ (j : ℕ). onState (front (p .n) (p .round (p .most - r + j)))) k m ≡ onState (run (p .n) (p .round) (p .most - r) k) m
   unfolding run rounds
   turns-run r k m = turns-onState (λ (j : ℕ). front (p .n) (p .round (p .most - r + j))) k m
+
+  -- the same from its round j on
+  pub turns-run-from : (r j k : ℕ) (m : Machine)
+      → turns (λ (i : ℕ). onState (front (p .n) (p .round (p .most - r + (j + i))))) k m ≡ onState (run (p .n) (p .round) (p .most - r + j) k) m
+  unfolding run rounds
+  turns-run-from r j k m =
+      turns-onState (λ (i : ℕ). front (p .n) (p .round (p .most - r + (j + i)))) k m
+      ∙ (λ h. onState (turns (λ (i : ℕ). front (p .n) (p .round (sym (add-assoc (p .most - r) j i) h))) k) m)
 
 module _ (p : Params) (l : LawfulParams p) (x : Input) where
   run-state : (r k : ℕ) (s t : List ℕ) → length s ≡ p .n → run (p .n) (p .round) (p .most - r) k (s ++ t) ≡ rounds (p .round) (p .most - r) k s ++ t

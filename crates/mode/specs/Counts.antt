@@ -8,8 +8,8 @@ use native.Mathlib.Nat.{add-mul, mul-comm}
 use native.Mathlib.Omega.{arith}
 use lib.ListN.{length}
 use Rattle.bits.specs.Pick.{pick}
-use Rattle.stopping.specs.Parts.{Shape, roundsIn, EachSome, shapes, roundsIn-append, some-shapes}
-use Rattle.stopping.specs.Course.{frontRounds, backRounds, Lawful}
+use Rattle.stopping.specs.Parts.{Shape, roundsIn, EachSome, shapes, shapes-append, roundsIn-append, some-shapes}
+use Rattle.stopping.specs.Course.{parts, frontRounds, backRounds, Lawful}
 use Rattle.mode.specs.Params.{Params, LawfulParams}
 use Rattle.mode.specs.Paper.{blocks}
 use Rattle.mode.specs.Parts.{Input, unlessEmpty, part, keyStart, keyBits, keyEnd, texts, macStart, assocs, ciphers, macKeyStart, macKeyBits, macKeyEnd, macEnd, encParts, macParts, sealingCourse, openingCourse, course}
@@ -96,6 +96,10 @@ module _ (p : Params) where
         go true = refl
         go false = shapes-enc
 
+    pub shapes-all : shapes (parts (course p x)) ≡ allShapes p (x .sealing) (length (x .assoc)) (length (x .text))
+    unfolding allShapes
+    shapes-all = shapes-append (course p x .front) (course p x .back) ∙ ap₂ _++_ shapes-front shapes-back
+
 -- ---- the rounds of each direction
 
 -- up to the decision: all of a sealing's, an opening's verification
@@ -153,6 +157,10 @@ module _ (p : Params) (l : LawfulParams p) where
   unfolding backShapes EachSome
   back-some true a m = tt
   back-some false a m = enc-some a m
+
+  pub all-some-shapes : (b : Bool) (a m : ℕ) → EachSome (allShapes p b a m)
+  unfolding allShapes
+  all-some-shapes b a m = some-shapes (frontShapes p b a m) (backShapes p b a m) (front-some b a m) (back-some b a m)
 
   verify-some : (a m : ℕ) → 0 < verifyRounds p a m
   unfolding verifyRounds rekeyRounds

@@ -8,10 +8,11 @@ use native.Mathlib.Nat.{zero-add}
 use native.Mathlib.Numerals.{add-one}
 use native.Mathlib.Omega.{arith}
 use lib.ListN.{length, drop, drop-of-length-le}
-use Rattle.stopping.specs.Parts.{Shape}
-use Rattle.stopping.specs.Places.{placeOf, shapeAt, place, behind, walk-here, walk-on}
+use Rattle.stopping.specs.Parts.{Shape, roundsIn}
+use Rattle.stopping.specs.Places.{Place, Moves, moves, placeOf, shapeAt, place, behind, walk-here, walk-on, startOf, start-here, start-on, start-end, each-some}
 use Rattle.mode.specs.Params.{Params}
-use Rattle.mode.specs.Counts.{allShapes}
+use Rattle.mode.specs.Instances.{paramsOf, lawful-instance}
+use Rattle.mode.specs.Counts.{allShapes, all-some-shapes}
 use Rattle.plan.specs.Planned.{kindOf, shapeOf}
 use Rattle.plan.specs.Kinds.{parts-of, eleven}
 
@@ -54,3 +55,63 @@ module _ (p : Params) (s : Bool) (a m n : ℕ) where
         inv
         ∙ walk-on (allShapes p s a m) part left inside (subst (λ (x : ℕ). x ≤ left) (sym (λ i. count-is i * rounds-is i)) l)
         ∙ (λ i. behind (sym (add-one part) i) (placeOf (drop (sym (add-one part) i) (allShapes p s a m)) (left - count-is i * rounds-is i)))
+
+-- ---- the first place of the parts from j on
+
+module _ (i : ℕ) (s : Bool) (a m j kind count : ℕ) (h : j < 11) (k : kind ≡ kindOf s j) (c : count ≡ shapeOf (paramsOf i) a m kind .count) where
+  shape-at : shapeOf (paramsOf i) a m kind ≡ shapeAt (allShapes (paramsOf i) s a m) j
+  shape-at = ap (shapeOf (paramsOf i) a m) k ∙ sym (parts-of (paramsOf i) a m s j h)
+
+  pub starts-here : 0 < count → startOf (allShapes (paramsOf i) s a m) j ≡ place j 0 0
+  starts-here l =
+      start-here (allShapes (paramsOf i) s a m) j (subst (λ (n : ℕ). 0 < n) (c ∙ ap Shape.count shape-at) l)
+      (each-some (allShapes (paramsOf i) s a m) (all-some-shapes (paramsOf i) (lawful-instance i) s a m) j (omega (arith, eleven (paramsOf i) a m s)))
+
+  pub starts-on : count ≡ 0 → startOf (allShapes (paramsOf i) s a m) j ≡ startOf (allShapes (paramsOf i) s a m) (j + 1)
+  starts-on e =
+      start-on (allShapes (paramsOf i) s a m) j (omega (arith, eleven (paramsOf i) a m s)) (sym (sym e ∙ c ∙ ap Shape.count shape-at))
+      ∙ ap (startOf (allShapes (paramsOf i) s a m)) (sym (add-one j))
+
+pub starts-end : (i : ℕ) (s : Bool) (a m : ℕ) → startOf (allShapes (paramsOf i) s a m) 11 ≡ place 11 0 0
+starts-end i s a m =
+    subst (λ (n : ℕ). startOf (allShapes (paramsOf i) s a m) n ≡ place n 0 0) (eleven (paramsOf i) a m s) (start-end (allShapes (paramsOf i) s a m))
+
+-- ---- a place moved on
+
+module _ (i : ℕ) (s : Bool) (a m n count : ℕ) (w : Place) (kind rounds calls : ℕ) (h : w .part < 11)
+    (k : kind ≡ kindOf s (w .part)) (r : rounds ≡ shapeOf (paramsOf i) a m kind .rounds) (c : calls ≡ shapeOf (paramsOf i) a m kind .count)
+    (l : n < roundsIn (allShapes (paramsOf i) s a m)) (e : placeOf (allShapes (paramsOf i) s a m) n ≡ w) where
+  same-shape : shapeOf (paramsOf i) a m kind ≡ shapeAt (allShapes (paramsOf i) s a m) (w .part)
+  same-shape = ap (shapeOf (paramsOf i) a m) k ∙ sym (parts-of (paramsOf i) a m s (w .part) h)
+
+  rounds-here : rounds ≡ shapeAt (allShapes (paramsOf i) s a m) (w .part) .rounds
+  rounds-here = r ∙ ap Shape.rounds same-shape
+
+  calls-here : calls ≡ shapeAt (allShapes (paramsOf i) s a m) (w .part) .count
+  calls-here = c ∙ ap Shape.count same-shape
+
+  all-moves : Moves (allShapes (paramsOf i) s a m) n count w
+  all-moves =
+      subst (Moves (allShapes (paramsOf i) s a m) n count) e (moves (allShapes (paramsOf i) s a m) (all-some-shapes (paramsOf i) (lawful-instance i) s a m) n count l)
+
+  pub moved-within : w .round + count < rounds → placeOf (allShapes (paramsOf i) s a m) (n + count) ≡ place (w .part) (w .call) (w .round + count)
+  unfolding Moves
+  moved-within b = all-moves .0 (omega (arith, rounds-here))
+
+  pub moved-call : w .round + count ≡ rounds → w .call + 1 < calls → placeOf (allShapes (paramsOf i) s a m) (n + count) ≡ place (w .part) (w .call + 1) 0
+  unfolding Moves
+  moved-call b d = all-moves .1 (b ∙ rounds-here) .0 (omega (arith, calls-here)) ∙ ap (λ (q : ℕ). place (w .part) q 0) (sym (add-one (w .call)))
+
+  pub moved-part : w .round + count ≡ rounds → w .call + 1 ≡ calls → placeOf (allShapes (paramsOf i) s a m) (n + count) ≡ startOf (allShapes (paramsOf i) s a m) (w .part + 1)
+  unfolding Moves
+  moved-part b d =
+      all-moves .1 (b ∙ rounds-here) .1 (omega (arith, calls-here)) ∙ ap (startOf (allShapes (paramsOf i) s a m)) (sym (add-one (w .part)))
+
+-- what is asked of a part's shape, said of the numbers that the code has of it
+pub round-fits : (i : ℕ) (s : Bool) (a m part kind rounds x : ℕ) → kind ≡ kindOf s part → rounds ≡ shapeOf (paramsOf i) a m kind .rounds
+    → x ≤ shapeOf (paramsOf i) a m (kindOf s part) .rounds → x ≤ rounds
+round-fits i s a m part kind rounds x k r h = subst (λ (n : ℕ). x ≤ n) (sym (r ∙ ap (λ (q : ℕ). shapeOf (paramsOf i) a m q .rounds) k)) h
+
+pub call-fits : (i : ℕ) (s : Bool) (a m part kind calls x : ℕ) → kind ≡ kindOf s part → calls ≡ shapeOf (paramsOf i) a m kind .count
+    → x < shapeOf (paramsOf i) a m (kindOf s part) .count → x < calls
+call-fits i s a m part kind calls x k c h = subst (λ (n : ℕ). x < n) (sym (c ∙ ap (λ (q : ℕ). shapeOf (paramsOf i) a m q .count) k)) h

@@ -3,7 +3,7 @@
 use mathlib.Core.Path.{_≡_}
 use mathlib.Core.Bool.{Bool}
 use mathlib.Core.List.{_++_}
-use Prim.Native.Nat.{ℕ, _+_, _/_, _%_, _≤_}
+use Prim.Native.Nat.{ℕ, _+_, _/_, _%_, _≤_, _<_}
 use lib.Dec.{eqb, leb}
 use Rattle.bits.specs.Pick.{pick}
 use Rattle.stopping.specs.Parts.{Shape}
@@ -66,3 +66,11 @@ macCalls p a m kind = pick (eqb kind 5) (a / p .b + 1) (pick (eqb kind 6) (m / p
 -- a place as the code has it
 abbrev pub placed : places.Place → Place
 placed w = record { part = w .part; call = w .call; round = w .round }
+
+-- a call that is there, within the limits, and so many rounds of it still to do
+pub record Standing (instance : ℕ) (sealing : Bool) (a m : ℕ) (at : Place) (count : ℕ) : Type 0 where
+  pub assocLimit : a ≤ 256
+  pub textLimit : m ≤ 4096
+  pub isPart : at .part < 11
+  pub isCall : at .call < shapeOf (paramsOf instance) a m (kindOf sealing (at .part)) .count
+  pub isRound : at .round + count ≤ shapeOf (paramsOf instance) a m (kindOf sealing (at .part)) .rounds

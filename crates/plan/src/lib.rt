@@ -1,7 +1,10 @@
 // Counting: the parameters of an instance, how many rounds a job takes, its parts, and where it stands after n rounds.
 // `plan` is public and has no `requires`. The others are internal: the library meets what they require, the limits of document 01.
+mod moves;
 mod places;
 
+pub use moves::first_from;
+pub use moves::moved;
 pub use places::Place;
 pub use places::count_of;
 pub use places::kind_of;

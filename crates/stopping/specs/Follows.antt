@@ -7,8 +7,8 @@ use Prim.Native.Nat.{ℕ, zero, suc, _+_, min, _≤_, _<_}
 use native.Mathlib.Nat.{min-eq-left}
 use native.Mathlib.Decide.{decLt}
 use native.Mathlib.Omega.{arith}
-use lib.Dec.{ltb}
-use borrow.Author.Tests.{lt-ltb, le-ltb, eq-eqb, ne-eqb}
+use lib.Dec.{ltb, eqb}
+use borrow.Author.Tests.{lt-ltb, le-ltb, eq-eqb, ne-eqb, eqb-true}
 use Rattle.bits.specs.Pick.{pick}
 use Rattle.stopping.specs.Stopped.{stopped, one, stopped-zero, stopped-more}
 use Rattle.stopping.specs.Rows.{run, at-end, stopped-front}
@@ -71,6 +71,36 @@ by-test false v e n hv hn b a f =
       | yes y ↦ rw (ne-eqb n v (λ q. omega arith), ne-eqb n (v + e) (λ q. omega arith), lt-ltb n v y)
       | no g ↦ rw (eq-eqb n v (omega arith), f (omega arith), le-ltb n v (omega arith))
     ]
+
+one-not : _≡_ {A = ℕ} 1 0 → ⊥
+one-not z = omega arith
+
+two-not : _≡_ {A = ℕ} 2 0 → ⊥
+two-not z = omega arith
+
+-- with the last of all rounds a job ends
+pub total-ends : (v e d : ℕ) (ok : Bool) → d ≡ v + e → endingOf v e d ok ≡ 0 → ⊥
+unfolding endingOf
+total-ends v e d ok q z = go (eqb d v) ok refl (sym (ap (λ (b : Bool). pick (eqb d v) (pick ok (pick (eqb e 0) 1 0) 2) (pick {A = ℕ} b 1 0)) (eq-eqb d (v + e) q)) ∙ z)
+  where
+    go : (b k : Bool) → eqb d v ≡ b → _≡_ {A = ℕ} (pick b (pick k (pick (eqb e 0) 1 0) 2) 1) 0 → ⊥
+    go true true f u = let n : e ≡ 0 = omega (arith, eqb-true d v f) in one-not (sym (ap (λ (b : Bool). pick {A = ℕ} b 1 0) (eq-eqb e 0 n)) ∙ u)
+    go true false f u = two-not u
+    go false k f u = one-not u
+
+-- where the decision accepts, only the last of all rounds ends a job
+pub ends-true : (v e d : ℕ) → endingOf v e d true ≡ pick (eqb d (v + e)) 1 0
+unfolding endingOf
+ends-true v e d = go (eqb d v) refl
+  where
+    go : (b : Bool) → eqb d v ≡ b → _≡_ {A = ℕ} (pick b (pick (eqb e 0) 1 0) (pick (eqb d (v + e)) 1 0)) (pick (eqb d (v + e)) 1 0)
+    go true f =
+        let at : d ≡ v = eqb-true d v f in
+        elim (decLt 0 e) [
+          | yes l ↦ rw (ne-eqb e 0 (λ q. omega arith), ne-eqb d (v + e) (λ q. omega arith))
+          | no l ↦ rw (eq-eqb e 0 (omega arith), eq-eqb d (v + e) (omega arith))
+        ]
+    go false f = refl
 
 not-zero : (b : Bool) → pick {A = ℕ} b 1 2 ≡ 0 → ⊥
 not-zero true e = omega arith

@@ -5,7 +5,7 @@ use mathlib.Core.Path.{_≡_, refl, sym, ap, ap₂, _∙_, subst}
 use mathlib.Core.List.{List, [], _∷_, _++_}
 use Prim.Native.Nat.{ℕ, zero, suc, _+_, _-_, _*_, _/_, _%_, _≤_, _<_}
 use native.Mathlib.Decide.{decLt}
-use native.Mathlib.Nat.{add-zero, div-lt-iff-lt-mul, div-add-mod', mod-lt, zero-add, zero-mod, mul-le-mul-right, suc-mul}
+use native.Mathlib.Nat.{add-zero, mul-pos, zero-mul, zero-div, div-lt-iff-lt-mul, div-add-mod', mod-lt, zero-add, zero-mod, mul-le-mul-right, suc-mul}
 use native.Mathlib.Omega.{arith}
 use lib.Arith.{digits-div, digits-mod}
 use lib.Dec.{ltb}
@@ -161,11 +161,59 @@ module _ (h : Shape) (hs : List Shape) (n k : ℕ) (l : n < h .count * h .rounds
       let e : n + k ≡ h .count * h .rounds = call-end b ∙ ap (λ (q : ℕ). q * h .rounds) c in
       place-on h hs (n + k) (omega arith) ∙ ap (λ (j : ℕ). onward (placeOf hs j)) (omega arith)
 
+-- the rounds of the call at which a place stands are rounds of the parts
+pub within-parts : (hs : List Shape) → EachSome hs → (n k : ℕ) → n < roundsIn hs
+    → placeOf hs n .round + k ≤ shapeAt hs (placeOf hs n .part) .rounds → n + k ≤ roundsIn hs
+unfolding roundsIn EachSome shapeAt
+within-parts [] s n k l b = absurd (omega arith)
+within-parts (h ∷ hs) s n k l b =
+    elim (decLt n (h .count * h .rounds)) [
+      | yes y ↦
+          let q = n / h .rounds in
+          let b′ : n % h .rounds + k ≤ h .rounds =
+          subst (λ (w : Place). w .round + k ≤ getD (h ∷ hs) (w .part) (record { count = 0; rounds = 0 }) .rounds) (place-here h hs n y) b in
+          let up = mul-le-mul-right (h .rounds) (here-call h hs n k y (s .0)) in
+          omega (arith, div-add-mod' n (h .rounds), suc-mul q (h .rounds))
+      | no f ↦
+          let j : ℕ = n - h .count * h .rounds in
+          let b′ : placeOf hs j .round + k ≤ getD hs (placeOf hs j .part) (record { count = 0; rounds = 0 }) .rounds =
+          subst (λ (w : Place). w .round + k ≤ getD (h ∷ hs) (w .part) (record { count = 0; rounds = 0 }) .rounds) (place-on h hs n (omega arith)) b in
+          omega (arith, within-parts hs (s .1) j k (omega arith) b′)
+    ]
+
 -- the first place of the parts from the j-th on
 unfoldable pub startOf : List Shape → ℕ → Place
 startOf hs zero = placeOf hs 0
 startOf [] (suc j) = place 0 0 0
 startOf (h ∷ hs) (suc j) = onward (startOf hs j)
+
+-- every part that is there has rounds
+pub each-some : (hs : List Shape) → EachSome hs → (j : ℕ) → j < length hs → 0 < shapeAt hs j .rounds
+unfolding EachSome shapeAt
+each-some [] s j l = absurd (omega arith)
+each-some (h ∷ hs) s zero l = s .0
+each-some (h ∷ hs) s (suc j) l = each-some hs (s .1) j (omega arith)
+
+-- a part with calls starts at itself, one without is passed over, and past the last is the end
+pub start-here : (hs : List Shape) (j : ℕ) → 0 < shapeAt hs j .count → 0 < shapeAt hs j .rounds → startOf hs j ≡ place j 0 0
+unfolding startOf shapeAt
+start-here [] j c r = absurd (omega arith)
+start-here (h ∷ hs) zero c r =
+    place-here h hs 0 (mul-pos c r) ∙ ap₂ (place 0) (zero-div (h .rounds)) (zero-mod (h .rounds))
+start-here (h ∷ hs) (suc j) c r = ap onward (start-here hs j c r)
+
+pub start-on : (hs : List Shape) (j : ℕ) → j < length hs → shapeAt hs j .count ≡ 0 → startOf hs j ≡ startOf hs (suc j)
+unfolding startOf shapeAt
+start-on [] j l e = absurd (omega arith)
+start-on (h ∷ hs) zero l e =
+    let none : h .count * h .rounds ≡ 0 = ap (λ (n : ℕ). n * h .rounds) e ∙ zero-mul (h .rounds) in
+    place-on h hs 0 (omega arith) ∙ ap (λ (n : ℕ). onward (placeOf hs n)) (omega arith)
+start-on (h ∷ hs) (suc j) l e = ap onward (start-on hs j (omega arith) e)
+
+pub start-end : (hs : List Shape) → startOf hs (length hs) ≡ place (length hs) 0 0
+unfolding startOf placeOf
+start-end [] = refl
+start-end (h ∷ hs) = ap onward (start-end hs)
 
 -- what k rounds of one call make of a place
 unfoldable pub Moves : List Shape → ℕ → ℕ → Place → Type 0

@@ -1,0 +1,5 @@
+mod Absorbing
+mod Placing
+mod Picked
+mod Agreeing
+mod Engines
