@@ -1,9 +1,10 @@
 -- The parts of a direction's order, by their kinds, and bounds on what an instance takes.
 -- Assumes nothing.
-use mathlib.Core.Path.{_≡_, refl, sym, ap, _∙_}
+use mathlib.Core.Path.{_≡_, refl, sym, ap, _∙_, subst}
 use mathlib.Core.Bool.{Bool, true, false}
 use mathlib.Core.List.{List, [], _∷_}
 use Prim.Native.Nat.{ℕ, zero, suc, _+_, _≤_, _<_}
+use native.Mathlib.Nat.{not-suc-le-zero}
 use native.Mathlib.Omega.{arith}
 use lib.Dec.{eqb, ltb, leb}
 use borrow.Author.Tests.{eqb-true, leb-true, eq-eqb, ne-eqb}
@@ -109,6 +110,33 @@ plan-within i a m = go (known i) (leb a 256) (leb m 4096) refl refl
     go true true false e f = record { number = omega arith; verify = omega arith; total = omega arith }
     go true false d e f = record { number = omega arith; verify = omega arith; total = omega arith }
     go false c d e f = record { number = omega arith; verify = omega arith; total = omega arith }
+
+fits-most : (i : ℕ) → passes (leb (paramsOf i .sH) (paramsOf i .most) ∷ leb (paramsOf i .sB) (paramsOf i .most) ∷ leb (paramsOf i .sE) (paramsOf i .most) ∷ leb (paramsOf i .sK) (paramsOf i .most) ∷ []) ≡ true
+unfolding isapA128a isapA128 isapK128a isapK128 passes
+fits-most = by-instance (λ p. passes (leb (p .sH) (p .most) ∷ leb (p .sB) (p .most) ∷ leb (p .sE) (p .most) ∷ leb (p .sK) (p .most) ∷ []) ≡ true) refl refl refl refl
+
+pick-most : (b : Bool) (x y z : ℕ) → x ≤ z → y ≤ z → pick b x y ≤ z
+pick-most true x y z h k = h
+pick-most false x y z h k = k
+
+-- no call has more rounds than the permutation
+pub rounds-most : (i a m k : ℕ) → k < 11 → shapeOf (paramsOf i) a m k .rounds ≤ paramsOf i .most
+rounds-most i a m k h =
+    let p = paramsOf i in
+    let t = passes-at _ (fits-most i) in
+    let sh = leb-true (p .sH) (p .most) (t 0) in
+    let sb = leb-true (p .sB) (p .most) (t 1) in
+    let se = leb-true (p .sE) (p .most) (t 2) in
+    let sk = leb-true (p .sK) (p .most) (t 3) in
+    subst (λ (n : ℕ). n ≤ p .most) (sym (rounds-of p a m k h))
+    (pick-most (eqb k 1) _ _ _ sb (pick-most (eqb k 8) _ _ _ sb (pick-most (eqb k 3) _ _ _ se
+    (pick-most (eqb k 0) _ _ _ sk (pick-most (eqb k 2) _ _ _ sk (pick-most (eqb k 7) _ _ _ sk (pick-most (eqb k 9) _ _ _ sk sh)))))))
+
+-- a call of a text block has its block
+pub text-calls : (p : Params) (a m call : ℕ) → call < shapeOf p a m 3 .count → call < blocks p m
+unfolding shapeOf shapeAt encShapes macShapes unlessEmpty
+text-calls p a zero call h = absurd (not-suc-le-zero h)
+text-calls p a (suc m) call h = h
 
 pub rekey-most : (i : ℕ) → rekeyRounds (paramsOf i) ≤ 1548
 unfolding rekeyRounds isapA128a isapA128 isapK128a isapK128

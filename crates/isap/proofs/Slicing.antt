@@ -1,0 +1,72 @@
+-- `slice`, from its refusals and from the end of its loop.
+-- Assumes nothing.
+use mathlib.Core.Path.{_≡_, refl, sym, ap, ap₂, _∙_, subst}
+use mathlib.Core.Bool.{Bool, true, false}
+use mathlib.Core.Logic.{_⊎_}
+use mathlib.Core.List.{List}
+use Prim.Native.Nat.{ℕ, _+_, _-_, _≤_}
+use native.Mathlib.Omega.{arith}
+use lib.Dec.{eqb}
+use lib.ListN.{length}
+use borrow.Author.Tests.{eqb-true, eq-eqb, ne-eqb}
+use Rattle.bits.specs.Pick.{pick}
+use Rattle.bits.specs.Every.{passes-at}
+use Rattle.stopping.specs.Course.{Core}
+use Rattle.mode.specs.Parts.{Machine}
+use Rattle.isap.specs.declared.Job.{Job}
+use Rattle.isap.specs.declared.Sliced.{Sliced}
+use Rattle.isap.specs.Records.{after, ran}
+use Rattle.isap.specs.Slices.{standsOf, lentOf, numberOf, refusalOf, answer, sliceOf, outOf}
+use Rattle.isap.specs.Sofar.{Fresh, Sofar, Timed, sofar-end, fresh-of}
+
+module _ (j : Job) (assoc text out : List ℕ) where
+  -- no refusal: the record stands, has not ended, and what belongs to it is lent
+  fresh-by : (s e l : Bool) → _≡_ {A = ℕ} (pick s (pick e (pick l 0 11) 10) 9) 0 → (s ≡ true) × (e ≡ true) × (l ≡ true)
+  fresh-by true true true q = (refl, refl, refl)
+  fresh-by true true false q = absurd (omega (arith, q))
+  fresh-by true false l q = absurd (omega (arith, q))
+  fresh-by false e l q = absurd (omega (arith, q))
+
+  pub unrefused : refusalOf j assoc text out ≡ 0 → Fresh j assoc text out
+  unfolding refusalOf lentOf
+  unrefused q =
+      let t = fresh-by (standsOf j) (eqb (j .ending) 0) (lentOf j assoc text out) q in
+      let l = passes-at _ (t .2) in
+      fresh-of j assoc text out (t .0) (eqb-true (j .ending) 0 (t .1))
+      (eqb-true (length assoc) (j .assoc) (l 0)) (eqb-true (length text) (j .text) (l 1)) (eqb-true (length out) (j .text) (l 2))
+
+  module _ (budget : ℕ) where
+    abbrev pub Gives : Sliced → List ℕ → Type 0
+    Gives r out′ = (r ≡ sliceOf j assoc text out budget) × (out′ ≡ outOf j assoc text out budget)
+
+    pub refuses : (n : ℕ) → n ≡ refusalOf j assoc text out → (n ≡ 0 → ⊥) → Gives (record { number = n; rounds = 0; job = j }) out
+    unfolding sliceOf outOf
+    refuses n e f =
+        let no : eqb (refusalOf j assoc text out) 0 ≡ false = ne-eqb (refusalOf j assoc text out) 0 (λ z. f (e ∙ z)) in
+        (
+          ap (λ (k : ℕ). record { number = k; rounds = 0; job = j }) e
+              ∙ sym (ap (λ (b : Bool). pick b (answer j assoc text out budget) (record { number = refusalOf j assoc text out; rounds = 0; job = j })) no),
+          sym (ap (λ (b : Bool). pick b (ran j assoc text out budget .machine .out) out) no),
+        )
+
+    pub finishes : (left : ℕ) (r : Job) (out′ : List ℕ) (number : ℕ) → refusalOf j assoc text out ≡ 0 → Sofar j assoc text out budget left r out′
+        → (left ≡ 0) ⊎ (r .ending ≡ 0 → ⊥) → number ≡ numberOf (r .ending) → Gives (record { number = number; rounds = budget - left; job = r }) out′
+    unfolding sliceOf outOf answer
+    finishes left r out′ number q h w n =
+        let yes : eqb (refusalOf j assoc text out) 0 ≡ true = eq-eqb (refusalOf j assoc text out) 0 q in
+        let e : ran j assoc text out (budget - left) ≡ ran j assoc text out budget = sofar-end j assoc text out budget left r out′ h w in
+        let all : number ≡ numberOf (ran j assoc text out budget .ending) =
+        n ∙ ap (λ (y : Job). numberOf (y .ending)) (h .jobIs) ∙ ap (λ (k : Core Machine). numberOf (k .ending)) e in
+        let d : ran j assoc text out budget .done ≡ j .done + (budget - left) = sym (ap (λ (k : Core Machine). k .done) e) ∙ h .doneIs in
+        let rounds : budget - left ≡ ran j assoc text out budget .done - j .done = omega (arith, d) in
+        let job : r ≡ after j (ran j assoc text out budget) = h .jobIs ∙ ap (after j) e in
+        (
+          (λ i. record { number = all i; rounds = rounds i; job = job i })
+              ∙ sym (ap (λ (b : Bool). pick b (answer j assoc text out budget) (record { number = refusalOf j assoc text out; rounds = 0; job = j })) yes),
+          h .outIs ∙ ap (λ (k : Core Machine). k .machine .out) e ∙ sym (ap (λ (b : Bool). pick b (ran j assoc text out budget .machine .out) out) yes),
+        )
+
+    -- the counts of a slice are those of each record in it
+    pub timed-now : (left : ℕ) (r : Job) (out′ : List ℕ) (front back : ℕ) → Sofar j assoc text out budget left r out′ → Timed j front back → Timed r front back
+    timed-now left r out′ front back h t =
+        subst (λ (y : Job). Timed y front back) (sym (h .jobIs)) (record { frontIs = t .frontIs; backIs = t .backIs })

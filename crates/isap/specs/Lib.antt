@@ -1,0 +1,4 @@
+pub mod Records
+pub mod Turns
+pub mod Slices
+pub mod Sofar
