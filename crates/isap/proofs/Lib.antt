@@ -1,3 +1,6 @@
 mod Tests
+mod Copying
 mod Turning
 mod Slicing
+mod Beginning
+mod Wholes

@@ -1,4 +1,9 @@
 pub mod Records
-pub mod Turns
 pub mod Slices
+pub mod Beginnings
+pub mod Whole
+pub mod Begun
+pub mod Runs
+pub mod Turns
 pub mod Sofar
+pub mod Budgets

@@ -1,9 +1,20 @@
 // ISAP for a station: jobs begun and sliced by budgets of permutation rounds, and whole calls.
-mod standing;
+mod beginnings;
+mod exports;
 mod slices;
+mod standing;
 mod turns;
+mod whole;
 
+pub use beginnings::begin_open;
+pub use beginnings::begin_seal;
+pub use exports::isap_open;
+pub use exports::isap_plan_total;
+pub use exports::isap_plan_verify;
+pub use exports::isap_seal;
 pub use slices::slice;
+pub use whole::open;
+pub use whole::seal;
 use plan::Place;
 
 // A job's record. Plain data: it is handed in by value and handed back.
@@ -26,9 +37,21 @@ pub struct Job {
     pub session: [u8; 50],
 }
 
+// What a beginning answers: document 01's number, and the record. It does no rounds.
+pub struct Begun {
+    pub number: u32,
+    pub job: Job,
+}
+
 // What a slice answers: document 01's number, the rounds it did itself, and the record.
 pub struct Sliced {
     pub number: u32,
     pub rounds: u32,
     pub job: Job,
+}
+
+// What a whole call answers: document 01's number, and the rounds done.
+pub struct Answer {
+    pub number: u32,
+    pub rounds: u32,
 }

@@ -1,0 +1,183 @@
+-- Whole calls, from their refusal, their beginning and their one slice.
+-- Assumes nothing.
+use mathlib.Core.Path.{_≡_, refl, sym, ap, ap₂, _∙_}
+use mathlib.Core.Bool.{Bool, true, false}
+use mathlib.Core.Logic.{_⊎_, inl, inr}
+use mathlib.Core.List.{List}
+use Prim.Native.Nat.{ℕ, _+_, _-_, _≤_}
+use native.Mathlib.Omega.{arith}
+use lib.Dec.{eqb}
+use lib.ListN.{length, replicate}
+use borrow.Author.Tests.{eq-eqb, ne-eqb, eqb-true}
+use Rattle.bits.specs.Pick.{pick}
+use Rattle.bits.specs.Every.{passes}
+use Rattle.mode.specs.Instances.{paramsOf, known}
+use Rattle.mode.specs.Counts.{verifyRounds, encryptRounds}
+use Rattle.plan.specs.Kinds.{verify-most, encrypt-most}
+use Rattle.isap.specs.declared.Job.{Job}
+use Rattle.isap.specs.declared.Begun as begins
+use Rattle.isap.specs.declared.Sliced.{Sliced}
+use Rattle.isap.specs.declared.Answer.{Answer}
+use Rattle.isap.specs.Records.{after, ran}
+use Rattle.isap.specs.Slices.{standsOf, lentOf, numberOf, refusalOf, answer, sliceOf, outOf}
+use Rattle.isap.specs.Beginnings.{limitsRefusal, tagRefusal, orElse, begunJob, noJob, begunOr, beginSealOf, beginOpenOf}
+use Rattle.isap.specs.Begun.{limits-none, or-none, tag-none, begun-stands}
+use Rattle.isap.specs.Whole.{outRefusal, wholeRefusal, refusalFor, answered, leaves, sealOf, sealOut, sealTag, openOf, openOut}
+use Rattle.isap.specs.Runs.{sealing-answer, sealing-writes, sealing-tags, opening-answer, opening-writes}
+
+-- ---- a call that is not refused
+
+pub record Fits (instance : ℕ) (key nonce assoc text out tag : List ℕ) : Type 0 where
+  pub isKnown : known instance ≡ true
+  pub keyLong : length key ≡ 16
+  pub nonceLong : length nonce ≡ 16
+  pub assocLimit : length assoc ≤ 256
+  pub textLimit : length text ≤ 4096
+  pub outLong : length out ≡ length text
+  pub tagLong : length tag ≡ 16
+  pub limits : limitsRefusal instance (length key) (length nonce) (length assoc) (length text) ≡ 0
+  pub tags : tagRefusal (length tag) ≡ 0
+
+out-none : (o m : ℕ) → outRefusal o m ≡ 0 → o ≡ m
+unfolding outRefusal
+out-none o m e = eqb-true o m (go (eqb o m) e)
+  where
+    go : (b : Bool) → _≡_ {A = ℕ} (pick b 0 6) 0 → b ≡ true
+    go true q = refl
+    go false q = absurd (omega (arith, q))
+
+pub fits : (instance : ℕ) (key nonce assoc text out tag : List ℕ) → refusalFor instance key nonce assoc text out tag ≡ 0 → Fits instance key nonce assoc text out tag
+unfolding wholeRefusal
+fits instance key nonce assoc text out tag e =
+    let t = or-none (limitsRefusal instance (length key) (length nonce) (length assoc) (length text)) (orElse (outRefusal (length out) (length text)) (tagRefusal (length tag))) e in
+    let w = or-none (outRefusal (length out) (length text)) (tagRefusal (length tag)) (t .1) in
+    let l = limits-none instance (length key) (length nonce) (length assoc) (length text) (t .0) in
+    record {
+      isKnown = l .0;
+      keyLong = l .1;
+      nonceLong = l .2;
+      assocLimit = l .3;
+      textLimit = l .4;
+      outLong = out-none (length out) (length text) (w .0);
+      tagLong = tag-none (length tag) (w .1);
+      limits = t .0;
+      tags = w .1;
+    }
+
+-- ---- one slice of a job just begun
+
+begun-job : (r : ℕ) (j : Job) → r ≡ 0 → begunOr r j .job ≡ j
+unfolding begunOr
+begun-job r j e = ap (λ (b : Bool). pick {A = begins.Begun} b (record { number = 100; job = j }) (record { number = r; job = noJob }) .job) (eq-eqb r 0 e)
+
+or-zero : (r s : ℕ) → r ≡ 0 → s ≡ 0 → orElse r s ≡ 0
+unfolding orElse
+or-zero r s e f = ap (λ (b : Bool). pick b s r) (eq-eqb r 0 e) ∙ f
+
+module _ (instance direction : ℕ) (key nonce tag assoc text out : List ℕ) (isKnown : known instance ≡ true) (way : (direction ≡ 1) ⊎ (direction ≡ 2))
+    (assocLimit : length assoc ≤ 256) (textLimit : length text ≤ 4096) (long : length out ≡ length text) where
+  abbrev j : Job
+  j = begunJob instance direction key nonce tag (length assoc) (length text)
+
+  unrefused : refusalOf j assoc text out ≡ 0
+  unfolding refusalOf lentOf passes begunJob
+  unrefused =
+      rw
+      (
+        begun-stands instance direction key nonce tag (length assoc) (length text) isKnown way assocLimit textLimit,
+        eq-eqb (length assoc) (length assoc) refl,
+        eq-eqb (length text) (length text) refl,
+        eq-eqb (length out) (length text) long,
+      )
+
+  pub sliced : (n : ℕ) → sliceOf j assoc text out n ≡ answer j assoc text out n
+  unfolding sliceOf
+  sliced n = rw (sliceOf, eq-eqb (refusalOf j assoc text out) 0 unrefused)
+
+  pub written : (n : ℕ) → outOf j assoc text out n ≡ ran j assoc text out n .machine .out
+  unfolding outOf
+  written n = rw (outOf, eq-eqb (refusalOf j assoc text out) 0 unrefused)
+
+enough : (instance : ℕ) (assoc text : List ℕ) → length assoc ≤ 256 → length text ≤ 4096
+    → encryptRounds (paramsOf instance) (length text) + verifyRounds (paramsOf instance) (length assoc) (length text) ≤ 15816
+enough instance assoc text a m = omega (arith, verify-most instance (length assoc) (length text) a m, encrypt-most instance (length text) m)
+
+-- ---- sealing
+
+module _ (instance : ℕ) (key nonce assoc text out tag : List ℕ) where
+  abbrev pub Seals : Answer → (out′ tag′ : List ℕ) → Type 0
+  Seals r out′ tag′ =
+      (r ≡ sealOf instance key nonce assoc text out tag) × (out′ ≡ sealOut instance key nonce assoc text out tag) × (tag′ ≡ sealTag instance key nonce assoc text out tag)
+
+  pub seal-refused : (n : ℕ) → n ≡ refusalFor instance key nonce assoc text out tag → (n ≡ 0 → ⊥) → Seals (record { number = n; rounds = 0 }) out tag
+  unfolding sealOf sealOut sealTag
+  seal-refused n e f =
+      let no = ne-eqb (refusalFor instance key nonce assoc text out tag) 0 (λ z. f (e ∙ z)) in
+      (rw (no, e), rw no, rw no)
+
+  pub seal-done : refusalFor instance key nonce assoc text out tag ≡ 0 → (b : begins.Begun) → b ≡ beginSealOf instance key nonce (length assoc) (length text)
+      → (s : Sliced) → s ≡ sliceOf (b .job) assoc text out 15816 → (out′ : List ℕ) → out′ ≡ outOf (b .job) assoc text out 15816
+      → (tag′ : List ℕ) → tag′ ≡ s .job .tag → Seals (record { number = s .number; rounds = s .rounds }) out′ tag′
+  unfolding sealOf sealOut sealTag beginSealOf answer begunJob
+  seal-done none b eb s es out′ eo tag′ et =
+      let h = fits instance key nonce assoc text out tag none in
+      let zeros : List ℕ = replicate 16 0 in
+      let job : b .job ≡ begunJob instance 1 key nonce zeros (length assoc) (length text) =
+      ap (λ (q : begins.Begun). q .job) eb
+      ∙ begun-job (limitsRefusal instance (length key) (length nonce) (length assoc) (length text)) (begunJob instance 1 key nonce zeros (length assoc) (length text)) (h .limits) in
+      let k = ran (begunJob instance 1 key nonce zeros (length assoc) (length text)) assoc text out 15816 in
+      let done : s ≡ answer (begunJob instance 1 key nonce zeros (length assoc) (length text)) assoc text out 15816 =
+      es ∙ ap (λ (y : Job). sliceOf y assoc text out 15816) job
+      ∙ sliced instance 1 key nonce zeros assoc text out (h .isKnown) (inl refl) (h .assocLimit) (h .textLimit) (h .outLong) 15816 in
+      let wrote : out′ ≡ k .machine .out =
+      eo ∙ ap (λ (y : Job). outOf y assoc text out 15816) job
+      ∙ written instance 1 key nonce zeros assoc text out (h .isKnown) (inl refl) (h .assocLimit) (h .textLimit) (h .outLong) 15816 in
+      let whole : k .done - 0 ≡ k .done = omega arith in
+      let yes = eq-eqb (refusalFor instance key nonce assoc text out tag) 0 none in
+      let all = enough instance assoc text (h .assocLimit) (h .textLimit) in
+      (
+        ap (λ (q : Sliced). record { number = q .number; rounds = q .rounds }) done
+            ∙ ap (λ (n : ℕ). record { number = numberOf (k .ending); rounds = n }) whole
+            ∙ sealing-answer instance 1 key nonce zeros assoc text out (h .keyLong) (h .nonceLong) (h .outLong) 15816 all refl ∙ rw yes,
+        wrote ∙ sealing-writes instance 1 key nonce zeros assoc text out (h .keyLong) (h .nonceLong) (h .outLong) 15816 all refl ∙ rw yes,
+        et ∙ ap (λ (q : Sliced). q .job .tag) done ∙ sealing-tags instance 1 key nonce zeros assoc text out (h .keyLong) (h .nonceLong) (h .outLong) 15816 all refl ∙ rw yes,
+      )
+
+-- ---- opening
+
+module _ (instance : ℕ) (key nonce assoc text tag out : List ℕ) where
+  abbrev pub Opens : Answer → (out′ : List ℕ) → Type 0
+  Opens r out′ = (r ≡ openOf instance key nonce assoc text tag out) × (out′ ≡ openOut instance key nonce assoc text tag out)
+
+  pub open-refused : (n : ℕ) → n ≡ refusalFor instance key nonce assoc text out tag → (n ≡ 0 → ⊥) → Opens (record { number = n; rounds = 0 }) out
+  unfolding openOf openOut
+  open-refused n e f =
+      let no = ne-eqb (refusalFor instance key nonce assoc text out tag) 0 (λ z. f (e ∙ z)) in
+      (rw (no, e), rw no)
+
+  pub open-done : refusalFor instance key nonce assoc text out tag ≡ 0 → (b : begins.Begun) → b ≡ beginOpenOf instance key nonce tag (length assoc) (length text)
+      → (s : Sliced) → s ≡ sliceOf (b .job) assoc text out 15816 → (out′ : List ℕ) → out′ ≡ outOf (b .job) assoc text out 15816
+      → Opens (record { number = s .number; rounds = s .rounds }) out′
+  unfolding openOf openOut beginOpenOf answer begunJob
+  open-done none b eb s es out′ eo =
+      let h = fits instance key nonce assoc text out tag none in
+      let job : b .job ≡ begunJob instance 2 key nonce tag (length assoc) (length text) =
+      let no = limitsRefusal instance (length key) (length nonce) (length assoc) (length text) in
+      ap (λ (q : begins.Begun). q .job) eb
+      ∙ begun-job (orElse no (tagRefusal (length tag))) (begunJob instance 2 key nonce tag (length assoc) (length text)) (or-zero no (tagRefusal (length tag)) (h .limits) (h .tags)) in
+      let k = ran (begunJob instance 2 key nonce tag (length assoc) (length text)) assoc text out 15816 in
+      let done : s ≡ answer (begunJob instance 2 key nonce tag (length assoc) (length text)) assoc text out 15816 =
+      es ∙ ap (λ (y : Job). sliceOf y assoc text out 15816) job
+      ∙ sliced instance 2 key nonce tag assoc text out (h .isKnown) (inr refl) (h .assocLimit) (h .textLimit) (h .outLong) 15816 in
+      let wrote : out′ ≡ k .machine .out =
+      eo ∙ ap (λ (y : Job). outOf y assoc text out 15816) job
+      ∙ written instance 2 key nonce tag assoc text out (h .isKnown) (inr refl) (h .assocLimit) (h .textLimit) (h .outLong) 15816 in
+      let whole : k .done - 0 ≡ k .done = omega arith in
+      let yes = eq-eqb (refusalFor instance key nonce assoc text out tag) 0 none in
+      let all = enough instance assoc text (h .assocLimit) (h .textLimit) in
+      (
+        ap (λ (q : Sliced). record { number = q .number; rounds = q .rounds }) done
+            ∙ ap (λ (n : ℕ). record { number = numberOf (k .ending); rounds = n }) whole
+            ∙ opening-answer instance 2 key nonce tag assoc text out (h .keyLong) (h .nonceLong) (h .outLong) 15816 all refl ∙ rw yes,
+        wrote ∙ opening-writes instance 2 key nonce tag assoc text out (h .keyLong) (h .nonceLong) (h .outLong) 15816 all refl ∙ rw yes,
+      )

@@ -1,0 +1,120 @@
+-- What a beginning's refusals leave out, and which of its records can stand.
+-- Assumes nothing.
+use mathlib.Core.Path.{_≡_, refl, sym, ap, _∙_}
+use mathlib.Core.Bool.{Bool, true, false}
+use mathlib.Core.Logic.{_⊎_, inl, inr}
+use mathlib.Core.List.{List, [], _∷_}
+use Prim.Native.Nat.{ℕ, _+_, _≤_, _<_}
+use native.Mathlib.Omega.{arith}
+use lib.Dec.{eqb, leb}
+use borrow.Author.Tests.{eqb-true, eqb-false, leb-true, eq-eqb, ne-eqb, le-leb}
+use Rattle.bits.specs.Pick.{pick}
+use Rattle.bits.specs.Every.{passes, and-left, and-right}
+use Rattle.stopping.specs.Course.{endingOf}
+use Rattle.stopping.specs.Follows.{ends-true}
+use Rattle.mode.specs.Instances.{paramsOf, known, lawful-instance}
+use Rattle.mode.specs.Counts.{frontCount, backCount, front-pos}
+use Rattle.plan.specs.declared.places.Place.{Place}
+use Rattle.isap.specs.declared.Job.{Job}
+use Rattle.isap.specs.Records.{sealingOf, shapesOf, totalOf}
+use Rattle.isap.specs.Slices.{endingRight, samePlace, placeRight, limitsRight, standsOf}
+use Rattle.isap.specs.Beginnings.{limitsRefusal, tagRefusal, orElse, begunJob, noJob}
+
+-- ---- no refusal: everything is within its limits
+
+limits-by : (i k n a m : Bool) → _≡_ {A = ℕ} (pick i (pick k (pick n (pick a (pick m 0 5) 4) 3) 2) 1) 0
+    → (i ≡ true) × (k ≡ true) × (n ≡ true) × (a ≡ true) × (m ≡ true)
+limits-by true true true true true q = (refl, refl, refl, refl, refl)
+limits-by true true true true false q = absurd (omega (arith, q))
+limits-by true true true false m q = absurd (omega (arith, q))
+limits-by true true false a m q = absurd (omega (arith, q))
+limits-by true false n a m q = absurd (omega (arith, q))
+limits-by false k n a m q = absurd (omega (arith, q))
+
+pub limits-none : (instance key nonce a m : ℕ) → limitsRefusal instance key nonce a m ≡ 0
+    → (known instance ≡ true) × (key ≡ 16) × (nonce ≡ 16) × (a ≤ 256) × (m ≤ 4096)
+unfolding limitsRefusal
+limits-none instance key nonce a m q =
+    let t = limits-by (known instance) (eqb key 16) (eqb nonce 16) (leb a 256) (leb m 4096) q in
+    (t .0, eqb-true key 16 (t .1), eqb-true nonce 16 (t .2), leb-true a 256 (t .3), leb-true m 4096 (t .4))
+
+pub limits-small : (instance key nonce a m : ℕ) → limitsRefusal instance key nonce a m ≤ 5
+unfolding limitsRefusal
+limits-small instance key nonce a m = go (known instance) (eqb key 16) (eqb nonce 16) (leb a 256) (leb m 4096)
+  where
+    go : (i k n a m : Bool) → pick i (pick k (pick n (pick a (pick m 0 5) 4) 3) 2) 1 ≤ 5
+    go true true true true true = omega arith
+    go true true true true false = omega arith
+    go true true true false m = omega arith
+    go true true false a m = omega arith
+    go true false n a m = omega arith
+    go false k n a m = omega arith
+
+pub tag-none : (t : ℕ) → tagRefusal t ≡ 0 → t ≡ 16
+unfolding tagRefusal
+tag-none t q = eqb-true t 16 (go (eqb t 16) q)
+  where
+    go : (b : Bool) → _≡_ {A = ℕ} (pick b 0 7) 0 → b ≡ true
+    go true q = refl
+    go false q = absurd (omega (arith, q))
+
+pub or-none : (r s : ℕ) → orElse r s ≡ 0 → (r ≡ 0) × (s ≡ 0)
+unfolding orElse
+or-none r s q = go (eqb r 0) refl q
+  where
+    go : (b : Bool) → eqb r 0 ≡ b → pick b s r ≡ 0 → (r ≡ 0) × (s ≡ 0)
+    go true e q = (eqb-true r 0 e, q)
+    go false e q = absurd (eqb-false r 0 e q)
+
+-- ---- the records
+
+pub none-stands : standsOf noJob ≡ false
+unfolding standsOf noJob limitsRight passes
+none-stands = refl
+
+same-place : (v : Place) → samePlace v v ≡ true
+unfolding passes
+same-place v = rw (eq-eqb (v .part) (v .part) refl, eq-eqb (v .call) (v .call) refl, eq-eqb (v .round) (v .round) refl)
+
+-- the direction's limits
+directed : (d : ℕ) → (d ≡ 1) ⊎ (d ≡ 2) → (1 ≤ d) × (d ≤ 2)
+directed d (inl e) = (omega arith, omega arith)
+directed d (inr e) = (omega arith, omega arith)
+
+limits-within : (i d a m : ℕ) → known i ≡ true → (d ≡ 1) ⊎ (d ≡ 2) → a ≤ 256 → m ≤ 4096 → limitsRight i d a m ≡ true
+unfolding limitsRight known passes
+limits-within i d a m k w ha hm =
+    let t = directed d w in
+    rw (and-left (leb 1 i) (leb i 4) k, and-right (leb 1 i) (leb i 4) k, le-leb 1 d (t .0), le-leb d 2 (t .1), le-leb a 256 ha, le-leb m 4096 hm)
+
+-- no job ends before its first round: there are rounds up to its decision
+ending-start : (v e : ℕ) → 0 < v → endingOf v e 0 true ≡ 0
+ending-start v e h = ends-true v e 0 ∙ ap (λ (b : Bool). pick b 1 0) (ne-eqb 0 (v + e) (λ z. omega (arith, z, h)))
+
+module _ (instance direction : ℕ) (key nonce tag : List ℕ) (a m : ℕ) where
+  abbrev begun : Job
+  begun = begunJob instance direction key nonce tag a m
+
+  ending-begun : endingRight begun ≡ true
+  unfolding endingRight begunJob
+  ending-begun =
+      let p = paramsOf instance in
+      let b = sealingOf direction in
+      let v = frontCount p b a m in
+      eq-eqb 0 (endingOf v (backCount p b m) 0 true) (sym (ending-start v (backCount p b m) (front-pos p (lawful-instance instance) b a m)))
+
+  place-begun : placeRight begun ≡ true
+  unfolding placeRight begunJob shapesOf
+  place-begun = same-place (begun .place)
+
+  done-begun : leb (begun .done) (totalOf begun) ≡ true
+  unfolding begunJob
+  done-begun = le-leb 0 (totalOf begun) (omega arith)
+
+  pub begun-stands : known instance ≡ true → (direction ≡ 1) ⊎ (direction ≡ 2) → a ≤ 256 → m ≤ 4096
+      → standsOf (begunJob instance direction key nonce tag a m) ≡ true
+  unfolding standsOf passes
+  begun-stands k d ha hm =
+      let lim : limitsRight (begun .instance) (begun .direction) (begun .assoc) (begun .text) ≡ true =
+      unfold begunJob in limits-within instance direction a m k d ha hm in
+      λ i. passes (lim i ∷ done-begun i ∷ ending-begun i ∷ place-begun i ∷ [])

@@ -1,0 +1,62 @@
+// For a host in C: numbers and byte slices only. A slice is a pointer and a length.
+ghost use mathlib.Core.Path.{_≡_};
+ghost use Rattle.plan.specs.Planned.{planOf};
+ghost use Rattle.isap.specs.Whole.{sealOf, sealOut, sealTag, openOf, openOut, packed};
+use crate::whole;
+
+// The number in the low 32 bits, the rounds in the high 32.
+fn pack(number: u32, rounds: u32) -> u64
+    ensures { λ r. ⌜ r ≡ packed number rounds ⌝ }
+{
+    number as u64 + 4294967296 * rounds as u64
+}
+
+#[no_mangle]
+pub extern "C" fn isap_seal(
+    instance: u32,
+    key: &[u8],
+    nonce: &[u8],
+    assoc: &[u8],
+    text: &[u8],
+    out: &mut [u8],
+    tag: &mut [u8],
+) -> u64
+    ensures { λ r. ⌜ (r ≡ packed (sealOf instance (now (key .entry)) (now (nonce .entry)) (now (assoc .entry)) (now (text .entry)) (now (out .entry)) (now (tag .entry)) .number) (sealOf instance (now (key .entry)) (now (nonce .entry)) (now (assoc .entry)) (now (text .entry)) (now (out .entry)) (now (tag .entry)) .rounds)) × (now (out .exit) ≡ sealOut instance (now (key .entry)) (now (nonce .entry)) (now (assoc .entry)) (now (text .entry)) (now (out .entry)) (now (tag .entry))) × (now (tag .exit) ≡ sealTag instance (now (key .entry)) (now (nonce .entry)) (now (assoc .entry)) (now (text .entry)) (now (out .entry)) (now (tag .entry))) ⌝ }
+{
+    let answer = whole::seal(instance, key, nonce, assoc, text, out, tag);
+    pack(answer.number, answer.rounds)
+}
+
+#[no_mangle]
+pub extern "C" fn isap_open(
+    instance: u32,
+    key: &[u8],
+    nonce: &[u8],
+    assoc: &[u8],
+    text: &[u8],
+    tag: &[u8],
+    out: &mut [u8],
+) -> u64
+    ensures { λ r. ⌜ (r ≡ packed (openOf instance (now (key .entry)) (now (nonce .entry)) (now (assoc .entry)) (now (text .entry)) (now (tag .entry)) (now (out .entry)) .number) (openOf instance (now (key .entry)) (now (nonce .entry)) (now (assoc .entry)) (now (text .entry)) (now (tag .entry)) (now (out .entry)) .rounds)) × (now (out .exit) ≡ openOut instance (now (key .entry)) (now (nonce .entry)) (now (assoc .entry)) (now (text .entry)) (now (tag .entry)) (now (out .entry))) ⌝ }
+{
+    let answer = whole::open(instance, key, nonce, assoc, text, tag, out);
+    pack(answer.number, answer.rounds)
+}
+
+// The rounds of a verification, which a wrong tag takes.
+#[no_mangle]
+pub extern "C" fn isap_plan_verify(instance: u32, assoc_len: u32, text_len: u32) -> u64
+    ensures { λ r. ⌜ r ≡ packed (planOf instance «assoc_len» «text_len» .number) (planOf instance «assoc_len» «text_len» .verify) ⌝ }
+{
+    let planned = plan::plan(instance, assoc_len, text_len);
+    pack(planned.number, planned.verify)
+}
+
+// The rounds of a sealing, and of an opening with a right tag.
+#[no_mangle]
+pub extern "C" fn isap_plan_total(instance: u32, assoc_len: u32, text_len: u32) -> u64
+    ensures { λ r. ⌜ r ≡ packed (planOf instance «assoc_len» «text_len» .number) (planOf instance «assoc_len» «text_len» .total) ⌝ }
+{
+    let planned = plan::plan(instance, assoc_len, text_len);
+    pack(planned.number, planned.total)
+}
