@@ -1,10 +1,10 @@
 -- `slice`, from its refusals and from the end of its loop.
 -- Assumes nothing.
-use mathlib.Core.Path.{_≡_, refl, sym, ap, ap₂, _∙_, subst}
+use mathlib.Core.Path.{_≡_, refl, sym, ap, _∙_, subst}
 use mathlib.Core.Bool.{Bool, true, false}
 use mathlib.Core.Logic.{_⊎_}
 use mathlib.Core.List.{List}
-use Prim.Native.Nat.{ℕ, _+_, _-_, _≤_}
+use Prim.Native.Nat.{ℕ, _+_, _-_}
 use native.Mathlib.Omega.{arith}
 use lib.Dec.{eqb}
 use lib.ListN.{length}
@@ -42,8 +42,7 @@ module _ (j : Job) (assoc text out : List ℕ) where
     pub refuses : (n : ℕ) → n ≡ refusalOf j assoc text out → (n ≡ 0 → ⊥) → Gives (record { number = n; rounds = 0; job = j }) out
     unfolding sliceOf outOf
     refuses n e f =
-        let no : eqb (refusalOf j assoc text out) 0 ≡ false = ne-eqb (refusalOf j assoc text out) 0 (λ z. f (e ∙ z)) in
-        (
+        let no : eqb (refusalOf j assoc text out) 0 ≡ false = ne-eqb (refusalOf j assoc text out) 0 (λ z. f (e ∙ z)) in (
           ap (λ (k : ℕ). record { number = k; rounds = 0; job = j }) e
               ∙ sym (ap (λ (b : Bool). pick b (answer j assoc text out budget) (record { number = refusalOf j assoc text out; rounds = 0; job = j })) no),
           sym (ap (λ (b : Bool). pick b (ran j assoc text out budget .machine .out) out) no),
@@ -59,8 +58,7 @@ module _ (j : Job) (assoc text out : List ℕ) where
         n ∙ ap (λ (y : Job). numberOf (y .ending)) (h .jobIs) ∙ ap (λ (k : Core Machine). numberOf (k .ending)) e in
         let d : ran j assoc text out budget .done ≡ j .done + (budget - left) = sym (ap (λ (k : Core Machine). k .done) e) ∙ h .doneIs in
         let rounds : budget - left ≡ ran j assoc text out budget .done - j .done = omega (arith, d) in
-        let job : r ≡ after j (ran j assoc text out budget) = h .jobIs ∙ ap (after j) e in
-        (
+        let job : r ≡ after j (ran j assoc text out budget) = h .jobIs ∙ ap (after j) e in (
           (λ i. record { number = all i; rounds = rounds i; job = job i })
               ∙ sym (ap (λ (b : Bool). pick b (answer j assoc text out budget) (record { number = refusalOf j assoc text out; rounds = 0; job = j })) yes),
           h .outIs ∙ ap (λ (k : Core Machine). k .machine .out) e ∙ sym (ap (λ (b : Bool). pick b (ran j assoc text out budget .machine .out) out) yes),

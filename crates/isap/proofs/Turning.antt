@@ -1,7 +1,6 @@
 -- `turn`, from what each of its calls gives: the rounds of one call are as many steps.
 -- Assumes nothing.
 use mathlib.Core.Path.{_≡_, refl, sym, ap, ap₂, _∙_, subst}
-use mathlib.Core.Bool.{Bool}
 use mathlib.Core.List.{List}
 use Prim.Native.Nat.{ℕ, zero, suc, _+_, _-_, _≤_, _<_}
 use native.Mathlib.Omega.{arith}
@@ -15,17 +14,16 @@ use Rattle.stopping.specs.Places as places
 use Rattle.stopping.specs.Places.{placeOf}
 use Rattle.stopping.specs.Course.{endingOf}
 use Rattle.mode.specs.Params.{Params}
-use Rattle.mode.specs.Paper.{blocks}
 use Rattle.mode.specs.Parts.{Machine, Input}
 use Rattle.mode.specs.Instances.{paramsOf}
-use Rattle.mode.specs.Counts.{allShapes, all-count, frontCount, backCount}
+use Rattle.mode.specs.Counts.{allShapes, all-count}
 use Rattle.plan.specs.declared.places.Place.{Place}
 use Rattle.plan.specs.Planned.{kindOf, shapeOf, placed, Standing}
 use Rattle.plan.specs.Kinds.{verify-most, encrypt-most, rounds-most, text-calls}
 use Rattle.sponge.specs.Kinds.{machine, partOf, CanEnter, Entered}
 use Rattle.sponge.specs.Leaves.{CanLeave, outLeft, tagLeft, shape-of}
 use Rattle.isap.specs.declared.Job.{Job}
-use Rattle.isap.specs.Records.{sealingOf, inputOf, machineOf, shapesOf, totalOf, after}
+use Rattle.isap.specs.Records.{sealingOf, inputOf, machineOf, shapesOf, totalOf}
 use Rattle.isap.specs.Turns.{turnedTo, Ready, At, at-of, total-is, EnteredAt, acceptsOf, endsWith, turn-steps}
 use Rattle.isap.specs.Sofar.{Timed, Turned, up-to, turned-of}
 
@@ -71,8 +69,14 @@ module _ (j : Job) (assoc text out : List ℕ) (count : ℕ) (h : Ready j assoc 
 
   pub both-fit : (front back : ℕ) → Timed j front back → front + back ≤ 15816
   both-fit front back t =
-      omega (arith, t .frontIs, t .backIs, all-count (paramsOf (j .instance)) (sealingOf (j .direction)) (j .assoc) (j .text),
-      verify-most (j .instance) (j .assoc) (j .text) (h .assocLimit) (h .textLimit), encrypt-most (j .instance) (j .text) (h .textLimit))
+      omega (
+        arith,
+        t .frontIs,
+        t .backIs,
+        all-count (paramsOf (j .instance)) (sealingOf (j .direction)) (j .assoc) (j .text),
+        verify-most (j .instance) (j .assoc) (j .text) (h .assocLimit) (h .textLimit),
+        encrypt-most (j .instance) (j .text) (h .textLimit),
+      )
 
   pub can-move : Standing (j .instance) (sealingOf (j .direction)) (j .assoc) (j .text) (j .place) count
   can-move =

@@ -1,14 +1,13 @@
 -- Whole calls, from their refusal, their beginning and their one slice.
 -- Assumes nothing.
-use mathlib.Core.Path.{_≡_, refl, sym, ap, ap₂, _∙_}
-use mathlib.Core.Bool.{Bool, true, false}
+use mathlib.Core.Path.{_≡_, refl, ap, _∙_}
+use mathlib.Core.Bool.{Bool, true}
 use mathlib.Core.Logic.{_⊎_, inl, inr}
 use mathlib.Core.List.{List}
 use Prim.Native.Nat.{ℕ, _+_, _-_, _≤_}
 use native.Mathlib.Omega.{arith}
-use lib.Dec.{eqb}
 use lib.ListN.{length, replicate}
-use borrow.Author.Tests.{eq-eqb, ne-eqb, eqb-true}
+use borrow.Author.Tests.{eq-eqb, ne-eqb}
 use Rattle.bits.specs.Pick.{pick}
 use Rattle.bits.specs.Every.{passes}
 use Rattle.mode.specs.Instances.{paramsOf, known}
@@ -18,61 +17,19 @@ use Rattle.isap.specs.declared.Job.{Job}
 use Rattle.isap.specs.declared.Begun as begins
 use Rattle.isap.specs.declared.Sliced.{Sliced}
 use Rattle.isap.specs.declared.Answer.{Answer}
-use Rattle.isap.specs.Records.{after, ran}
-use Rattle.isap.specs.Slices.{standsOf, lentOf, numberOf, refusalOf, answer, sliceOf, outOf}
+use Rattle.isap.specs.Records.{ran}
+use Rattle.isap.specs.Slices.{lentOf, numberOf, refusalOf, answer, sliceOf, outOf}
 use Rattle.isap.specs.Beginnings.{limitsRefusal, tagRefusal, orElse, begunJob, noJob, begunOr, beginSealOf, beginOpenOf}
-use Rattle.isap.specs.Begun.{limits-none, or-none, tag-none, begun-stands}
-use Rattle.isap.specs.Whole.{outRefusal, wholeRefusal, refusalFor, answered, leaves, sealOf, sealOut, sealTag, openOf, openOut}
+use Rattle.isap.specs.Begun.{begun-stands}
+use Rattle.isap.specs.Whole.{refusalFor, sealOf, sealOut, sealTag, openOf, openOut}
+use Rattle.isap.specs.Fits.{fits, or-zero}
 use Rattle.isap.specs.Runs.{sealing-answer, sealing-writes, sealing-tags, opening-answer, opening-writes}
-
--- ---- a call that is not refused
-
-pub record Fits (instance : ℕ) (key nonce assoc text out tag : List ℕ) : Type 0 where
-  pub isKnown : known instance ≡ true
-  pub keyLong : length key ≡ 16
-  pub nonceLong : length nonce ≡ 16
-  pub assocLimit : length assoc ≤ 256
-  pub textLimit : length text ≤ 4096
-  pub outLong : length out ≡ length text
-  pub tagLong : length tag ≡ 16
-  pub limits : limitsRefusal instance (length key) (length nonce) (length assoc) (length text) ≡ 0
-  pub tags : tagRefusal (length tag) ≡ 0
-
-out-none : (o m : ℕ) → outRefusal o m ≡ 0 → o ≡ m
-unfolding outRefusal
-out-none o m e = eqb-true o m (go (eqb o m) e)
-  where
-    go : (b : Bool) → _≡_ {A = ℕ} (pick b 0 6) 0 → b ≡ true
-    go true q = refl
-    go false q = absurd (omega (arith, q))
-
-pub fits : (instance : ℕ) (key nonce assoc text out tag : List ℕ) → refusalFor instance key nonce assoc text out tag ≡ 0 → Fits instance key nonce assoc text out tag
-unfolding wholeRefusal
-fits instance key nonce assoc text out tag e =
-    let t = or-none (limitsRefusal instance (length key) (length nonce) (length assoc) (length text)) (orElse (outRefusal (length out) (length text)) (tagRefusal (length tag))) e in
-    let w = or-none (outRefusal (length out) (length text)) (tagRefusal (length tag)) (t .1) in
-    let l = limits-none instance (length key) (length nonce) (length assoc) (length text) (t .0) in
-    record {
-      isKnown = l .0;
-      keyLong = l .1;
-      nonceLong = l .2;
-      assocLimit = l .3;
-      textLimit = l .4;
-      outLong = out-none (length out) (length text) (w .0);
-      tagLong = tag-none (length tag) (w .1);
-      limits = t .0;
-      tags = w .1;
-    }
 
 -- ---- one slice of a job just begun
 
 begun-job : (r : ℕ) (j : Job) → r ≡ 0 → begunOr r j .job ≡ j
 unfolding begunOr
 begun-job r j e = ap (λ (b : Bool). pick {A = begins.Begun} b (record { number = 100; job = j }) (record { number = r; job = noJob }) .job) (eq-eqb r 0 e)
-
-or-zero : (r s : ℕ) → r ≡ 0 → s ≡ 0 → orElse r s ≡ 0
-unfolding orElse
-or-zero r s e f = ap (λ (b : Bool). pick b s r) (eq-eqb r 0 e) ∙ f
 
 module _ (instance direction : ℕ) (key nonce tag assoc text out : List ℕ) (isKnown : known instance ≡ true) (way : (direction ≡ 1) ⊎ (direction ≡ 2))
     (assocLimit : length assoc ≤ 256) (textLimit : length text ≤ 4096) (long : length out ≡ length text) where
@@ -82,8 +39,7 @@ module _ (instance direction : ℕ) (key nonce tag assoc text out : List ℕ) (i
   unrefused : refusalOf j assoc text out ≡ 0
   unfolding refusalOf lentOf passes begunJob
   unrefused =
-      rw
-      (
+      rw (
         begun-stands instance direction key nonce tag (length assoc) (length text) isKnown way assocLimit textLimit,
         eq-eqb (length assoc) (length assoc) refl,
         eq-eqb (length text) (length text) refl,
@@ -134,8 +90,7 @@ module _ (instance : ℕ) (key nonce assoc text out tag : List ℕ) where
       ∙ written instance 1 key nonce zeros assoc text out (h .isKnown) (inl refl) (h .assocLimit) (h .textLimit) (h .outLong) 15816 in
       let whole : k .done - 0 ≡ k .done = omega arith in
       let yes = eq-eqb (refusalFor instance key nonce assoc text out tag) 0 none in
-      let all = enough instance assoc text (h .assocLimit) (h .textLimit) in
-      (
+      let all = enough instance assoc text (h .assocLimit) (h .textLimit) in (
         ap (λ (q : Sliced). record { number = q .number; rounds = q .rounds }) done
             ∙ ap (λ (n : ℕ). record { number = numberOf (k .ending); rounds = n }) whole
             ∙ sealing-answer instance 1 key nonce zeros assoc text out (h .keyLong) (h .nonceLong) (h .outLong) 15816 all refl ∙ rw yes,
@@ -174,8 +129,7 @@ module _ (instance : ℕ) (key nonce assoc text tag out : List ℕ) where
       ∙ written instance 2 key nonce tag assoc text out (h .isKnown) (inr refl) (h .assocLimit) (h .textLimit) (h .outLong) 15816 in
       let whole : k .done - 0 ≡ k .done = omega arith in
       let yes = eq-eqb (refusalFor instance key nonce assoc text out tag) 0 none in
-      let all = enough instance assoc text (h .assocLimit) (h .textLimit) in
-      (
+      let all = enough instance assoc text (h .assocLimit) (h .textLimit) in (
         ap (λ (q : Sliced). record { number = q .number; rounds = q .rounds }) done
             ∙ ap (λ (n : ℕ). record { number = numberOf (k .ending); rounds = n }) whole
             ∙ opening-answer instance 2 key nonce tag assoc text out (h .keyLong) (h .nonceLong) (h .outLong) 15816 all refl ∙ rw yes,

@@ -1,7 +1,5 @@
 -- What a beginning gives: the refusals 1 to 5 and 7 in this order, else a record before its first round.
 -- Assumes nothing.
-use mathlib.Core.Path.{_≡_}
-use mathlib.Core.Bool.{Bool, true, false}
 use mathlib.Core.List.{List}
 use Prim.Native.Nat.{ℕ}
 use lib.Dec.{eqb, leb}

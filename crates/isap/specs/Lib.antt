@@ -3,7 +3,9 @@ pub mod Slices
 pub mod Beginnings
 pub mod Whole
 pub mod Begun
+pub mod Fits
 pub mod Runs
 pub mod Turns
 pub mod Sofar
 pub mod Budgets
+pub mod Promises

@@ -1,6 +1,5 @@
 -- A job's record as the mode's definitions see it: what it is given, what it works on, and the record after some steps.
 -- Assumes nothing.
-use mathlib.Core.Path.{_≡_}
 use mathlib.Core.Bool.{Bool}
 use mathlib.Core.List.{List}
 use Prim.Native.Nat.{ℕ, _+_}

@@ -3,24 +3,22 @@
 use mathlib.Core.Path.{_≡_, refl, sym, ap, ap₂, _∙_}
 use mathlib.Core.Bool.{Bool, true, false}
 use mathlib.Core.List.{List}
-use Prim.Native.Nat.{ℕ, _+_, _-_, _≤_, min}
+use Prim.Native.Nat.{ℕ, _+_, _≤_, min}
 use native.Mathlib.Omega.{arith}
-use lib.Dec.{eqb, leb}
-use borrow.Author.Tests.{leb-true}
+use lib.Dec.{eqb}
 use lib.ListN.{length, replicate, length-replicate}
 use Rattle.bits.specs.Pick.{pick}
-use Rattle.stopping.specs.Course.{Course, Core, begun, accepted, lasts, halted, endedBy, frontRounds, backRounds, Lawful}
+use Rattle.stopping.specs.Course.{Course, Core, accepted, lasts, halted, endedBy, frontRounds, backRounds, Lawful}
 use Rattle.stopping.specs.Follows.{lasts-most, following, follows, ended}
-use Rattle.mode.specs.Strings.{same}
 use Rattle.mode.specs.Params.{Params}
-use Rattle.mode.specs.Paper.{isapEnc, isapMac, seal, Opened, Opened.plaintext, Opened.refused, unseal}
+use Rattle.mode.specs.Paper.{isapEnc, seal, Opened, Opened.plaintext, Opened.refused, unseal}
 use Rattle.mode.specs.Parts.{Machine, Input}
 use Rattle.mode.specs.Instances.{isapA128a, isapA128, isapK128a, isapK128, paramsOf, lawful-instance}
 use Rattle.mode.specs.Counts.{verifyRounds, encryptRounds, frontCount, front-rounds, back-rounds, all-count, lawful}
-use Rattle.mode.specs.Theorems.{Ready, sealing-accepted, sealing-out, sealing-tag, opening-accepts, opening-out, opening-is-paper, untouched-refused}
+use Rattle.mode.specs.Theorems.{Ready, sealing-accepted, sealing-out, sealing-tag, opening-out, opening-is-paper, untouched-refused}
 use Rattle.isap.specs.declared.Job.{Job}
 use Rattle.isap.specs.declared.Answer.{Answer}
-use Rattle.isap.specs.Records.{inputOf, machineOf, courseOf, totalOf, ran}
+use Rattle.isap.specs.Records.{courseOf, ran}
 use Rattle.isap.specs.Slices.{numberOf}
 use Rattle.isap.specs.Beginnings.{begunJob}
 use Rattle.isap.specs.Whole.{openedAnswer, openedOut}
@@ -43,35 +41,34 @@ module _ (instance direction : ℕ) (key nonce tag assoc text out : List ℕ)
   abbrev j : Job
   j = begunJob instance direction key nonce tag (length assoc) (length text)
 
-  x : Input
+  abbrev x : Input
   x = record { sealing = eqb direction 1; key = key; nonce = nonce; assoc = assoc; text = text }
 
-  m : Machine
+  abbrev m : Machine
   m = record { state = replicate 50 0; session = replicate 50 0; out = out; tag = tag }
 
-  c : Course Machine
+  abbrev c : Course Machine
   c = courseOf j assoc text
 
   lawful-c : Lawful c
-  unfolding c courseOf begunJob x
+  unfolding courseOf begunJob
   lawful-c = lawful (paramsOf instance) (lawful-instance instance) x
 
   ready : Ready p x m
-  unfolding x m
   ready =
       let w = length-replicate {A = ℕ} 50 0 in
       record { state = omega (arith, state-fits instance, w); session = omega (arith, state-fits instance, w); out = long }
 
   -- wherever it is stopped
-  runs : (n : ℕ) → ran j assoc text out n ≡ record { machine = halted c n m; done = min n (lasts c m); ending = endedBy c n m }
-  unfolding ran begunJob c m following
+  pub runs : (n : ℕ) → ran j assoc text out n ≡ record { machine = halted c n m; done = min n (lasts c m); ending = endedBy c n m }
+  unfolding ran begunJob following
   runs n = follows c lawful-c m n
 
   abbrev all : ℕ
   all = encryptRounds (paramsOf instance) (length text) + verifyRounds (paramsOf instance) (length assoc) (length text)
 
   both : frontRounds c + backRounds c ≡ all
-  unfolding c courseOf begunJob x
+  unfolding courseOf begunJob
   both = ap₂ (λ (u v : ℕ). u + v) (front-rounds (paramsOf instance) x) (back-rounds (paramsOf instance) x) ∙ all-count (paramsOf instance) (eqb direction 1) (length assoc) (length text)
 
   -- its last round and its ending, from what the decision says
@@ -102,7 +99,7 @@ module _ (instance direction : ℕ) (key nonce tag assoc text out : List ℕ)
 
     module _ (d : eqb direction 1 ≡ true) where
       made : accepted c m ≡ true
-      unfolding c courseOf begunJob x m
+      unfolding courseOf begunJob
       made = sealing-accepted (paramsOf instance) (lawful-instance instance) x hk hn m ready d
 
       pub sealing-answer : _≡_ {A = Answer} (record { number = numberOf (ran j assoc text out n .ending); rounds = ran j assoc text out n .done })
@@ -111,11 +108,11 @@ module _ (instance direction : ℕ) (key nonce tag assoc text out : List ℕ)
       sealing-answer = answer-is true all made (lasts-accepted made)
 
       pub sealing-writes : ran j assoc text out n .machine .out ≡ seal (paramsOf instance) key nonce assoc text .cipher
-      unfolding c courseOf begunJob x m
+      unfolding courseOf begunJob
       sealing-writes = ap (λ (k : Core Machine). k .machine .out) (runs n) ∙ sealing-out (paramsOf instance) (lawful-instance instance) x hk hn m ready d n h
 
       pub sealing-tags : ran j assoc text out n .machine .tag ≡ seal (paramsOf instance) key nonce assoc text .tag
-      unfolding c courseOf begunJob x m
+      unfolding courseOf begunJob
       sealing-tags = ap (λ (k : Core Machine). k .machine .tag) (runs n) ∙ sealing-tag (paramsOf instance) (lawful-instance instance) x hk hn m ready d n h
 
     -- ---- an opening
@@ -125,11 +122,11 @@ module _ (instance direction : ℕ) (key nonce tag assoc text out : List ℕ)
       u = unseal (paramsOf instance) key nonce assoc text tag
 
       paper : u ≡ pick (accepted c m) (plaintext (isapEnc (paramsOf instance) key nonce text)) refused
-      unfolding u c courseOf begunJob x m
+      unfolding u courseOf begunJob
       paper = opening-is-paper (paramsOf instance) (lawful-instance instance) x hk hn m ready d
 
       front-is : frontRounds c ≡ verifyRounds (paramsOf instance) (length assoc) (length text)
-      unfolding c courseOf begunJob x frontCount
+      unfolding courseOf begunJob frontCount
       front-is = front-rounds (paramsOf instance) x ∙ ap (λ (b : Bool). frontCount (paramsOf instance) b (length assoc) (length text)) d
 
       abbrev AnswerIs : Type 0
@@ -148,7 +145,7 @@ module _ (instance direction : ℕ) (key nonce tag assoc text out : List ℕ)
           ∙ ap (openedAnswer (paramsOf instance) (length assoc) (length text)) (sym (paper ∙ ap (λ (b : Bool). pick b (plaintext (isapEnc (paramsOf instance) key nonce text)) refused) e))
 
       out-by : (b : Bool) → accepted c m ≡ b → OutIs
-      unfolding openedOut c courseOf begunJob x m
+      unfolding openedOut courseOf begunJob
       out-by true e =
           ap (λ (k : Core Machine). k .machine .out) (runs n)
           ∙ opening-out (paramsOf instance) (lawful-instance instance) x hk hn m ready d e n h

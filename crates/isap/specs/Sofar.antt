@@ -1,30 +1,27 @@
 -- The loop of a slice, turn by turn: so many of the budget's rounds are left, and the others are done.
 -- Assumes nothing.
 use mathlib.Core.Path.{_≡_, refl, sym, ap, ap₂, _∙_, subst}
-use mathlib.Core.Bool.{Bool, true, false}
+use mathlib.Core.Bool.{true}
 use mathlib.Core.Logic.{_⊎_, inl, inr}
-use mathlib.Core.List.{List, []}
+use mathlib.Core.List.{List}
 use Prim.Native.Nat.{ℕ, _+_, _-_, _≤_, _<_}
 use native.Mathlib.Omega.{arith}
-use lib.Dec.{eqb}
 use lib.ListN.{length}
-use borrow.Author.Tests.{eqb-true, leb-true, eq-eqb, ne-eqb}
-use Rattle.bits.specs.Pick.{pick}
-use Rattle.bits.specs.Every.{passes, passes-at}
+use borrow.Author.Tests.{eqb-true, leb-true, ne-eqb}
+use Rattle.bits.specs.Every.{passes-at}
 use Rattle.stopping.specs.Parts.{Shape}
 use Rattle.stopping.specs.Places.{placeOf, shapeAt, within-parts}
 use Rattle.stopping.specs.Course.{Core, endingOf, steps}
 use Rattle.stopping.specs.Follows.{steps-add, steps-ended, total-ends}
 use Rattle.mode.specs.Parts.{Machine}
 use Rattle.mode.specs.Instances.{paramsOf}
-use Rattle.mode.specs.Counts.{frontCount, backCount, all-count, verifyRounds}
+use Rattle.mode.specs.Counts.{frontCount, backCount, all-count}
 use Rattle.plan.specs.declared.places.Place.{Place}
 use Rattle.plan.specs.Planned.{placed, kindOf, shapeOf}
 use Rattle.isap.specs.declared.Job.{Job}
-use Rattle.isap.specs.declared.Sliced.{Sliced}
 use Rattle.isap.specs.Records.{sealingOf, coreOf, courseOf, shapesOf, totalOf, after, ran}
 use Rattle.isap.specs.Turns.{Ready, At, at-of, acceptsOf, endsWith, total-is, kind-shape, some-shapes-of}
-use Rattle.isap.specs.Slices.{endingRight, placeRight, limitsRight, standsOf, lentOf}
+use Rattle.isap.specs.Slices.{endingRight, placeRight, limitsRight, standsOf}
 
 -- a record that stands and has not ended, with what belongs to it lent
 pub record Fresh (j : Job) (assoc text out : List ℕ) : Type 0 where

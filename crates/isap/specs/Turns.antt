@@ -3,31 +3,29 @@
 -- Assumes nothing.
 use mathlib.Core.Path.{_≡_, refl, sym, ap, ap₂, _∙_, subst}
 use mathlib.Core.Bool.{Bool, true, false}
-use mathlib.Core.List.{List, _++_}
-use Prim.Native.Nat.{ℕ, zero, suc, _+_, _-_, _%_, _≤_, _<_}
+use mathlib.Core.List.{List}
+use Prim.Native.Nat.{ℕ, suc, _+_, _-_, _%_, _≤_, _<_}
 use native.Mathlib.Omega.{arith}
 use lib.Dec.{eqb}
 use lib.ListN.{length, take}
-use borrow.Author.Tests.{eq-eqb, ne-eqb}
 use Rattle.bits.specs.Pick.{pick}
 use Rattle.bits.specs.Every.{upto-at}
-use Rattle.bits.specs.Run.{turns, front, run}
+use Rattle.bits.specs.Run.{turns, run}
 use Rattle.stopping.specs.Stopped.{Call, entered, left}
-use Rattle.stopping.specs.Parts.{Shape, Part, EachSome, roundsIn, roundsIn-append, callOf, shapes}
-use Rattle.stopping.specs.Places.{Place, place, placeOf, partAt, callAt, shapeAt, Inside, place-inside, rounds-at}
-use Rattle.stopping.specs.Course.{Course, Core, parts, frontRounds, backRounds, endingOf, coreAt, standsAt, steps, Lawful}
+use Rattle.stopping.specs.Parts.{Shape, EachSome, roundsIn, roundsIn-append, callOf}
+use Rattle.stopping.specs.Places.{Place, place, placeOf, partAt, callAt, shapeAt, Inside, place-inside}
+use Rattle.stopping.specs.Course.{Course, parts, frontRounds, backRounds, endingOf, coreAt, standsAt, steps, Lawful}
 use Rattle.stopping.specs.Chunks.{some, chunk}
-use Rattle.stopping.specs.Follows.{all-rounds}
 use Rattle.mode.specs.Strings.{same}
 use Rattle.mode.specs.Params.{Params}
-use Rattle.mode.specs.Parts.{Machine, Input, onState, encParts, macParts, sealingCourse, openingCourse, course}
+use Rattle.mode.specs.Parts.{Machine, Input, onState, sealingCourse, openingCourse, course}
 use Rattle.mode.specs.Instances.{paramsOf, lawful-instance}
 use Rattle.mode.specs.Calls.{turns-run-from}
-use Rattle.mode.specs.Counts.{frontShapes, backShapes, front-count, back-count, allShapes, shapes-all, lawful, all-some-shapes, front-rounds, back-rounds, all-count, verifyRounds, encryptRounds, frontCount, backCount}
+use Rattle.mode.specs.Counts.{frontShapes, backShapes, front-count, back-count, allShapes, shapes-all, lawful, all-some-shapes, front-rounds, back-rounds, all-count, frontCount, backCount}
 use Rattle.plan.specs.declared.places.Place as planned
 use Rattle.plan.specs.Planned.{kindOf, shapeOf, placed}
 use Rattle.plan.specs.Kinds.{parts-of, eleven}
-use Rattle.sponge.specs.Kinds.{given, machine, partOf}
+use Rattle.sponge.specs.Kinds.{machine, partOf}
 use Rattle.sponge.specs.Leaves.{outLeft, tagLeft, shape-of, turn-of, leave-of}
 use Rattle.isap.specs.declared.Job.{Job}
 use Rattle.isap.specs.Records.{sealingOf, inputOf, machineOf, coreOf, courseOf, shapesOf, totalOf, after, ran}
@@ -248,7 +246,7 @@ module _ (j : Job) (assoc text out : List ℕ) (count : ℕ) (h : Ready j assoc 
       let r = ap (λ (f : Call Machine). f .rounds) call-is in
       let s = ap Shape.rounds (shape-of (paramsOf (j .instance)) (inputOf j assoc text) (kindOf (sealingOf (j .direction)) (j .place .part))) in
       let q : shapeOf (paramsOf (j .instance)) (length assoc) (length text) (kindOf (sealingOf (j .direction)) (j .place .part)) .rounds
-          ≡ shapeOf (paramsOf (j .instance)) (j .assoc) (j .text) (kindOf (sealingOf (j .direction)) (j .place .part)) .rounds =
+      ≡ shapeOf (paramsOf (j .instance)) (j .assoc) (j .text) (kindOf (sealingOf (j .direction)) (j .place .part)) .rounds =
       ap₂ (λ (a m : ℕ). shapeOf (paramsOf (j .instance)) a m (kindOf (sealingOf (j .direction)) (j .place .part)) .rounds) (h .assocLong) (h .textLong) in
       omega (arith, h .fits, r, s, q, ap planned.Place.round place-is)
 
@@ -272,7 +270,7 @@ module _ (j : Job) (assoc text out : List ℕ) (count : ℕ) (h : Ready j assoc 
       let r : w .round ≡ j .place .round = sym (ap planned.Place.round place-is) in
       let f = callOf (partOf (paramsOf (j .instance)) (inputOf j assoc text) (kindOf (sealingOf (j .direction)) (j .place .part))) (j .place .call) in
       let here : left (callAt (parts c) w) (w .round + k) (some (callAt (parts c) w) (w .round) (suc k) (machineOf j out))
-          ≡ turnedTo (paramsOf (j .instance)) (inputOf j assoc text) (kindOf (sealingOf (j .direction)) (j .place .part)) (j .place .call) (j .place .round) (suc k) s ss out (j .tag) =
+      ≡ turnedTo (paramsOf (j .instance)) (inputOf j assoc text) (kindOf (sealingOf (j .direction)) (j .place .part)) (j .place .call) (j .place .round) (suc k) s ss out (j .tag) =
       ap₂ (λ (g : Call Machine) (i : ℕ). left g (i + k) (some g i (suc k) (machineOf j out))) call-is r
       ∙ turned-is (paramsOf (j .instance)) (inputOf j assoc text) (kindOf (sealingOf (j .direction)) (j .place .part)) (j .place .call) kind-small (j .place .round) k (machineOf j out) s ss out (j .tag) e in
       let all : left (callAt (parts c) w) (w .round + k) (some (callAt (parts c) w) (w .round) (suc k) (machineOf j out)) ≡ m =

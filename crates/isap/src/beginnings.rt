@@ -1,10 +1,10 @@
 // The beginning of a job: its refusals, and the record before its first round.
 ghost use mathlib.Core.Path.{_≡_};
 ghost use Prim.Native.Nat.{_≤_};
-ghost use lib.ListN.{length, replicate};
-ghost use Rattle.isap.specs.Beginnings.{limitsRefusal, tagRefusal, orElse, begunJob, noJob, begunOr, beginSealOf, beginOpenOf};
-use crate::Job;
+ghost use lib.ListN.{length};
+ghost use Rattle.isap.specs.Beginnings.{limitsRefusal, tagRefusal, orElse, begunJob, noJob, beginSealOf, beginOpenOf};
 use crate::Begun;
+use crate::Job;
 use plan::Place;
 
 // 1 to 5 in this order, from the instance and the lengths; 0 if none applies.
@@ -124,10 +124,7 @@ fn refused(number: u32) -> Begun
         state,
         session,
     };
-    Begun {
-        number,
-        job,
-    }
+    Begun { number, job }
 }
 
 // Begins a sealing of a text of m bytes with a bytes of associated data.
@@ -140,21 +137,11 @@ pub fn begin_seal(instance: u32, key: &[u8], nonce: &[u8], a: u32, m: u32) -> Be
     }
     let tag = [0u8; 16];
     let job = begun_job(instance, 1, key, nonce, tag, a, m);
-    Begun {
-        number: 100,
-        job,
-    }
+    Begun { number: 100, job }
 }
 
 // Begins an opening, with the tag received.
-pub fn begin_open(
-    instance: u32,
-    key: &[u8],
-    nonce: &[u8],
-    tag: &[u8],
-    a: u32,
-    m: u32,
-) -> Begun
+pub fn begin_open(instance: u32, key: &[u8], nonce: &[u8], tag: &[u8], a: u32, m: u32) -> Begun
     ensures { λ r. ⌜ r ≡ beginOpenOf instance (now (key .entry)) (now (nonce .entry)) (now (tag .entry)) a m ⌝ }
 {
     let limits = limits_refusal(instance, key.len(), nonce.len(), a as usize, m as usize);
@@ -164,8 +151,5 @@ pub fn begin_open(
     }
     let received = sixteen(tag);
     let job = begun_job(instance, 2, key, nonce, received, a, m);
-    Begun {
-        number: 100,
-        job,
-    }
+    Begun { number: 100, job }
 }

@@ -12,10 +12,10 @@ pub use exports::isap_open;
 pub use exports::isap_plan_total;
 pub use exports::isap_plan_verify;
 pub use exports::isap_seal;
+use plan::Place;
 pub use slices::slice;
 pub use whole::open;
 pub use whole::seal;
-use plan::Place;
 
 // A job's record. Plain data: it is handed in by value and handed back.
 pub struct Job {

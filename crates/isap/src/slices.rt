@@ -3,14 +3,12 @@ ghost use mathlib.Core.Path.{_≡_};
 ghost use Prim.Native.Nat.{_+_, _≤_, _<_};
 ghost use Rattle.mode.specs.Instances.{paramsOf};
 ghost use Rattle.mode.specs.Counts.{frontCount, backCount};
-ghost use Rattle.isap.specs.Records.{sealingOf};
 ghost use Rattle.isap.specs.Turns.{At, Rest};
 ghost use Rattle.isap.specs.Slices.{numberOf, refusalOf, sliceOf, outOf};
 use crate::Job;
 use crate::Sliced;
 use crate::standing::stands;
 use crate::turns::turn;
-use plan::Place;
 
 // The rounds up to the decision, and after it.
 fn front_rounds(instance: u32, sealing: bool, a: u32, m: u32) -> u32

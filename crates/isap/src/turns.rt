@@ -6,7 +6,7 @@ ghost use Rattle.stopping.specs.Course.{endingOf};
 ghost use Rattle.mode.specs.Instances.{paramsOf};
 ghost use Rattle.sponge.specs.Kinds.{CanEnter};
 ghost use Rattle.sponge.specs.Leaves.{CanLeave, outLeft, tagLeft};
-ghost use Rattle.isap.specs.Records.{inputOf, sealingOf};
+ghost use Rattle.isap.specs.Records.{inputOf};
 ghost use Rattle.isap.specs.Turns.{Ready, EnteredAt, acceptsOf};
 ghost use Rattle.isap.specs.Sofar.{Timed, Turned};
 use crate::Job;

@@ -22,20 +22,20 @@ returns c =
     let key = c .before .sixteen .ensures in
     let nonce = c .sixteen2 .ensures in
     λ i.
-        record {
-          instance = a .instance;
-          direction = a .direction;
-          assoc = a .a;
-          text = a .m;
-          key = key i;
-          nonce = nonce i;
-          tag = a .tag;
-          done = 0;
-          place = place i;
-          ending = 0;
-          state = replicate 50 0;
-          session = replicate 50 0;
-        }
+    record {
+      instance = a .instance;
+      direction = a .direction;
+      assoc = a .a;
+      text = a .m;
+      key = key i;
+      nonce = nonce i;
+      tag = a .tag;
+      done = 0;
+      place = place i;
+      ending = 0;
+      state = replicate 50 0;
+      session = replicate 50 0;
+    }
 
 pub begun-job-spec : {M : Type 1} → statement M
 begun-job-spec = tie.close (tie.spec place-after-requires sixteen-requires sixteen-requires-2 returns)

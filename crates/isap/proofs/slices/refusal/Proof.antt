@@ -1,14 +1,12 @@
 -- `isap::slices::refusal` meets its contract: each test is the definition's, in its order.
 -- Assumes nothing.
-use mathlib.Core.Path.{_≡_, sym, ap, _∙_}
-use mathlib.Core.Bool.{Bool, true, false}
+use mathlib.Core.Path.{_≡_, sym, _∙_}
+use mathlib.Core.Bool.{true, false}
 use mathlib.Core.List.{List}
 use Prim.Native.Nat.{ℕ}
-use lib.Dec.{eqb}
 use lib.ListN.{length}
 use borrow.Author.Needs.{needs}
 use borrow.Author.Tests.{eq-eqb, ne-eqb, not-true, not-false}
-use Rattle.bits.specs.Pick.{pick}
 use Rattle.bits.specs.Every.{passes}
 use Rattle.isap.specs.declared.Job.{Job}
 use Rattle.isap.specs.Slices.{standsOf, lentOf, refusalOf}

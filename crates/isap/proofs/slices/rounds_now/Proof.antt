@@ -1,14 +1,13 @@
 -- `isap::slices::rounds_now` meets its contract: the rest of the call is as its kind's rounds say.
 -- Assumes nothing.
 use mathlib.Core.Path.{_≡_, ap, _∙_}
-use Prim.Native.Nat.{ℕ, _+_, _≤_}
+use Prim.Native.Nat.{ℕ}
 use native.Mathlib.Omega.{arith}
 use borrow.Author.Needs.{needs}
 use Rattle.mode.specs.Instances.{paramsOf}
 use Rattle.plan.specs.Planned.{kindOf, shapeOf}
 use Rattle.isap.specs.declared.Job.{Job}
 use Rattle.isap.specs.Records.{sealingOf}
-use Rattle.isap.specs.Turns.{Rest}
 use Rattle.isap.proofs.slices.rounds_now.Statement.{statement}
 use Rattle.isap.proofs.slices.rounds_now.Tie as tie
 

@@ -1,6 +1,6 @@
 -- `isap::slices::slice` meets its contract: the refusal first, then the loop, whose invariant is `Sofar`.
 -- Assumes nothing.
-use mathlib.Core.Path.{_≡_, refl, sym, _∙_}
+use mathlib.Core.Path.{_≡_, sym, _∙_}
 use mathlib.Core.Logic.{_⊎_, inl, inr, ⊎-elim}
 use native.Mathlib.Omega.{arith}
 use borrow.Author.Needs.{needs}
@@ -48,8 +48,7 @@ rounds-now-requires : tie.Need-rounds-now-requires Inv-loop μ-loop
 rounds-now-requires c κs =
     let t = c .before .before in
     let l = t .before in
-    let a = l .before .before .before .before .before .before .before .before .before .before .args in
-    (
+    let a = l .before .before .before .before .before .before .before .before .before .before .args in (
       sofar-place (a .job) (a .assoc .now) (a .text .now) (a .out .now) (a .budget) (l .loop .left) (l .loop .current) (l .loop .out) (l .loop .inv) (c .if2 .left),
       t .loop-test .taken,
     )
@@ -62,8 +61,7 @@ turn-requires c κs =
     let b = l .before in
     let f = b .before in
     let a = f .before .before .before .before .before .before .before .before .args in
-    let e = n .rounds-now .ensures in
-    (
+    let e = n .rounds-now .ensures in (
       sofar-ready (a .job) (a .assoc .now) (a .text .now) (a .out .now) (a .budget) (l .loop .left) (l .loop .current) (l .loop .out) (l .loop .inv) (i .if2 .left)
           (n .rounds-now .result) (e .1) (e .2 .fits),
       timed-now (a .job) (a .assoc .now) (a .text .now) (a .out .now) (a .budget) (l .loop .left) (l .loop .current) (l .loop .out) _ _ (l .loop .inv)

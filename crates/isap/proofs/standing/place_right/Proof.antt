@@ -1,6 +1,6 @@
 -- `isap::standing::place_right` meets its contract: the place walked anew is the definition's.
 -- Assumes nothing.
-use mathlib.Core.Path.{ap, ap₂, _∙_}
+use mathlib.Core.Path.{ap, _∙_}
 use borrow.Author.Needs.{needs}
 use Rattle.stopping.specs.Places.{placeOf}
 use Rattle.mode.specs.Instances.{paramsOf}

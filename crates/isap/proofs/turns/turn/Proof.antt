@@ -1,6 +1,5 @@
 -- `isap::turns::turn` meets its contract: what it calls, put together by `Turning`.
 -- Assumes nothing.
-use mathlib.Core.Path.{_≡_, sym, _∙_}
 use native.Mathlib.Omega.{arith}
 use borrow.Author.Needs.{needs}
 use Rattle.isap.proofs.Turning.{standing, done-fits, both-fit, can-enter, can-leave, within, under, can-move, together}

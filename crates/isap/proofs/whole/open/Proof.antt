@@ -1,9 +1,10 @@
 -- `isap::whole::open` meets its contract: its refusal, or a beginning and one slice that ends the job.
 -- Assumes nothing.
-use mathlib.Core.Path.{_≡_, refl, sym, _∙_}
+use mathlib.Core.Path.{sym, _∙_}
 use native.Mathlib.Omega.{arith}
 use borrow.Author.Needs.{needs}
-use Rattle.isap.proofs.Wholes.{fits, open-refused, open-done}
+use Rattle.isap.specs.Fits.{fits}
+use Rattle.isap.proofs.Wholes.{open-refused, open-done}
 use Rattle.isap.proofs.whole.open.Statement.{statement}
 use Rattle.isap.proofs.whole.open.Tie as tie
 

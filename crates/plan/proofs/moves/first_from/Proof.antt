@@ -34,8 +34,7 @@ loop-again c =
     let n = c .before in
     let k = n .before in
     let l = k .before .before in
-    let a = l .before .args in
-    (
+    let a = l .before .args in (
       omega arith,
       l .loop .inv .1
           ∙ starts-on (a .instance) (a .sealing) (a .a) (a .m) (l .loop .j) (k .kind-of .result) (n .count-of .result) (omega arith) (k .kind-of .ensures .0) (n .count-of .ensures .0) (omega arith),
