@@ -9,5 +9,6 @@ pub mod Calls
 pub mod Ends
 pub mod Theorems
 pub mod Kept
+pub mod Beyond
 pub mod Instances
 pub mod Checked
