@@ -13,8 +13,7 @@ use Rattle.stopping.specs.Stopped.{Call, entered}
 use Rattle.stopping.specs.Places as places
 use Rattle.stopping.specs.Places.{placeOf}
 use Rattle.stopping.specs.Course.{endingOf}
-use Rattle.mode.specs.Params.{Params}
-use Rattle.mode.specs.Parts.{Machine, Input}
+use Rattle.mode.specs.Parts.{Machine}
 use Rattle.mode.specs.Instances.{paramsOf}
 use Rattle.mode.specs.Counts.{allShapes, all-count}
 use Rattle.plan.specs.declared.places.Place.{Place}
@@ -53,12 +52,6 @@ enters-first j kind assoc text out s ss h e tag =
 -- ---- a job ready for some rounds of a call
 
 module _ (j : Job) (assoc text out : List ℕ) (count : ℕ) (h : Ready j assoc text out count) where
-  p : Params
-  p = paramsOf (j .instance)
-
-  x : Input
-  x = inputOf j assoc text
-
   pub standing : At j (j .place)
   standing = subst (At j) (sym (h .placeIs)) (at-of j (h .inside))
 

@@ -58,9 +58,6 @@ turnedTo p x kind call round count s ss out tag =
     machine s′ ss (pick (lastNow p x kind round count) (outLeft p x kind call s′ out) out) (pick (lastNow p x kind round count) (tagLeft x kind s′ tag) tag)
 
 module _ (p : Params) (x : Input) (kind call : ℕ) (h : kind < 11) where
-  f : Call Machine
-  f = callOf (partOf p x kind) call
-
   rounds-now : (round count : ℕ) (m : Machine) → turns (λ (i : ℕ). partOf p x kind .turn (round + i)) count m
       ≡ onState (run (p .n) (p .round) (p .most - partOf p x kind .shape .rounds + round) count) m
   rounds-now round count m =
