@@ -1,5 +1,4 @@
 mod Tests
-mod Copying
 mod Turning
 mod Slicing
 mod Beginning

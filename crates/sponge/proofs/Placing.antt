@@ -72,12 +72,6 @@ value-front n a b c d e f g h l m =
     ap (λ (j : ℕ). take j (a ∷ b ∷ c ∷ d ∷ e ∷ f ∷ g ∷ h ∷ replicate 26 0)) long
     ∙ ap (λ (u : List ℕ). a ∷ b ∷ c ∷ d ∷ e ∷ f ∷ g ∷ h ∷ u) (take-zeros k 26 (omega arith))
 
-pub copy-more : (xs o : List ℕ) (i : ℕ) → i < length xs → i < length o → set (take i xs ++ drop i o) i (getD xs i 0) ≡ take (suc i) xs ++ drop (suc i) o
-copy-more [] o i h k = absurd (omega arith)
-copy-more (x ∷ xs) [] i h k = absurd (omega arith)
-copy-more (x ∷ xs) (z ∷ o) zero h k = refl
-copy-more (x ∷ xs) (z ∷ o) (suc i) h k = ap (λ (u : List ℕ). x ∷ u) (copy-more xs o i (omega arith) (omega arith))
-
 -- ---- a block of text
 
 -- one byte more

@@ -1,3 +1,4 @@
 pub mod Kinds
 pub mod Entering
 pub mod Leaves
+pub mod Copying
