@@ -8,15 +8,15 @@ use Prim.Native.Nat.{ℕ, _+_, _-_}
 use native.Mathlib.Omega.{arith}
 use lib.Dec.{eqb}
 use lib.ListN.{length}
-use borrow.Author.Tests.{eqb-true, eq-eqb, ne-eqb}
+use borrow.Author.Tests.{eqb-true, eq-eqb}
 use Rattle.bits.specs.Pick.{pick}
 use Rattle.bits.specs.Every.{passes-at}
 use Rattle.stopping.specs.Course.{Core}
 use Rattle.mode.specs.Parts.{Machine}
 use Rattle.isap.specs.declared.Job.{Job}
-use Rattle.isap.specs.declared.Sliced.{Sliced}
 use Rattle.isap.specs.Records.{after, ran}
 use Rattle.isap.specs.Slices.{standsOf, lentOf, numberOf, refusalOf, answer, sliceOf, outOf}
+use Rattle.isap.specs.Promises.{Slices, slice-refused}
 use Rattle.isap.specs.Sofar.{Fresh, Sofar, Timed, sofar-end, fresh-of}
 
 module _ (j : Job) (assoc text out : List ℕ) where
@@ -36,20 +36,13 @@ module _ (j : Job) (assoc text out : List ℕ) where
       (eqb-true (length assoc) (j .assoc) (l 0)) (eqb-true (length text) (j .text) (l 1)) (eqb-true (length out) (j .text) (l 2))
 
   module _ (budget : ℕ) where
-    abbrev pub Gives : Sliced → List ℕ → Type 0
-    Gives r out′ = (r ≡ sliceOf j assoc text out budget) × (out′ ≡ outOf j assoc text out budget)
-
-    pub refuses : (n : ℕ) → n ≡ refusalOf j assoc text out → (n ≡ 0 → ⊥) → Gives (record { number = n; rounds = 0; job = j }) out
-    unfolding sliceOf outOf
+    pub refuses : (n : ℕ) → n ≡ refusalOf j assoc text out → (n ≡ 0 → ⊥) → Slices j assoc text out budget (record { number = n; rounds = 0; job = j }) out
     refuses n e f =
-        let no : eqb (refusalOf j assoc text out) 0 ≡ false = ne-eqb (refusalOf j assoc text out) 0 (λ z. f (e ∙ z)) in (
-          ap (λ (k : ℕ). record { number = k; rounds = 0; job = j }) e
-              ∙ sym (ap (λ (b : Bool). pick b (answer j assoc text out budget) (record { number = refusalOf j assoc text out; rounds = 0; job = j })) no),
-          sym (ap (λ (b : Bool). pick b (ran j assoc text out budget .machine .out) out) no),
-        )
+        let t = slice-refused j assoc text out budget (λ z. f (e ∙ z)) in
+        (ap (λ (k : ℕ). record { number = k; rounds = 0; job = j }) e ∙ sym (t .0), sym (t .1))
 
     pub finishes : (left : ℕ) (r : Job) (out′ : List ℕ) (number : ℕ) → refusalOf j assoc text out ≡ 0 → Sofar j assoc text out budget left r out′
-        → (left ≡ 0) ⊎ (r .ending ≡ 0 → ⊥) → number ≡ numberOf (r .ending) → Gives (record { number = number; rounds = budget - left; job = r }) out′
+        → (left ≡ 0) ⊎ (r .ending ≡ 0 → ⊥) → number ≡ numberOf (r .ending) → Slices j assoc text out budget (record { number = number; rounds = budget - left; job = r }) out′
     unfolding sliceOf outOf answer
     finishes left r out′ number q h w n =
         let yes : eqb (refusalOf j assoc text out) 0 ≡ true = eq-eqb (refusalOf j assoc text out) 0 q in

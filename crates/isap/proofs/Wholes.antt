@@ -1,13 +1,13 @@
 -- Whole calls, from their refusal, their beginning and their one slice.
 -- Assumes nothing.
-use mathlib.Core.Path.{_≡_, refl, ap, _∙_}
+use mathlib.Core.Path.{_≡_, refl, sym, ap, _∙_, subst}
 use mathlib.Core.Bool.{Bool, true}
 use mathlib.Core.Logic.{_⊎_, inl, inr}
 use mathlib.Core.List.{List}
 use Prim.Native.Nat.{ℕ, _+_, _-_, _≤_}
 use native.Mathlib.Omega.{arith}
 use lib.ListN.{length, replicate}
-use borrow.Author.Tests.{eq-eqb, ne-eqb}
+use borrow.Author.Tests.{eq-eqb}
 use Rattle.bits.specs.Pick.{pick}
 use Rattle.bits.specs.Every.{passes}
 use Rattle.mode.specs.Instances.{paramsOf, known}
@@ -16,13 +16,13 @@ use Rattle.plan.specs.Kinds.{verify-most, encrypt-most}
 use Rattle.isap.specs.declared.Job.{Job}
 use Rattle.isap.specs.declared.Begun as begins
 use Rattle.isap.specs.declared.Sliced.{Sliced}
-use Rattle.isap.specs.declared.Answer.{Answer}
 use Rattle.isap.specs.Records.{ran}
 use Rattle.isap.specs.Slices.{lentOf, numberOf, refusalOf, answer, sliceOf, outOf}
 use Rattle.isap.specs.Beginnings.{limitsRefusal, tagRefusal, orElse, begunJob, noJob, begunOr, beginSealOf, beginOpenOf}
 use Rattle.isap.specs.Begun.{begun-stands}
 use Rattle.isap.specs.Whole.{refusalFor, sealOf, sealOut, sealTag, openOf, openOut}
 use Rattle.isap.specs.Fits.{fits, or-zero}
+use Rattle.isap.specs.Promises.{Seals, Opens, sealing-refused, opening-refused}
 use Rattle.isap.specs.Runs.{sealing-answer, sealing-writes, sealing-tags, opening-answer, opening-writes}
 
 -- ---- one slice of a job just begun
@@ -61,19 +61,14 @@ enough instance assoc text a m = omega (arith, verify-most instance (length asso
 -- ---- sealing
 
 module _ (instance : ℕ) (key nonce assoc text out tag : List ℕ) where
-  abbrev pub Seals : Answer → (out′ tag′ : List ℕ) → Type 0
-  Seals r out′ tag′ =
-      (r ≡ sealOf instance key nonce assoc text out tag) × (out′ ≡ sealOut instance key nonce assoc text out tag) × (tag′ ≡ sealTag instance key nonce assoc text out tag)
-
-  pub seal-refused : (n : ℕ) → n ≡ refusalFor instance key nonce assoc text out tag → (n ≡ 0 → ⊥) → Seals (record { number = n; rounds = 0 }) out tag
-  unfolding sealOf sealOut sealTag
+  pub seal-refused : (n : ℕ) → n ≡ refusalFor instance key nonce assoc text out tag → (n ≡ 0 → ⊥) → Seals instance key nonce assoc text out tag (record { number = n; rounds = 0 }) out tag
   seal-refused n e f =
-      let no = ne-eqb (refusalFor instance key nonce assoc text out tag) 0 (λ z. f (e ∙ z)) in
-      (rw (no, e), rw no, rw no)
+      subst (λ (k : ℕ). Seals instance key nonce assoc text out tag (record { number = k; rounds = 0 }) out tag) (sym e)
+      (sealing-refused instance key nonce assoc text out tag (λ z. f (e ∙ z)))
 
   pub seal-done : refusalFor instance key nonce assoc text out tag ≡ 0 → (b : begins.Begun) → b ≡ beginSealOf instance key nonce (length assoc) (length text)
       → (s : Sliced) → s ≡ sliceOf (b .job) assoc text out 15816 → (out′ : List ℕ) → out′ ≡ outOf (b .job) assoc text out 15816
-      → (tag′ : List ℕ) → tag′ ≡ s .job .tag → Seals (record { number = s .number; rounds = s .rounds }) out′ tag′
+      → (tag′ : List ℕ) → tag′ ≡ s .job .tag → Seals instance key nonce assoc text out tag (record { number = s .number; rounds = s .rounds }) out′ tag′
   unfolding sealOf sealOut sealTag beginSealOf answer begunJob
   seal-done none b eb s es out′ eo tag′ et =
       let h = fits instance key nonce assoc text out tag none in
@@ -101,18 +96,14 @@ module _ (instance : ℕ) (key nonce assoc text out tag : List ℕ) where
 -- ---- opening
 
 module _ (instance : ℕ) (key nonce assoc text tag out : List ℕ) where
-  abbrev pub Opens : Answer → (out′ : List ℕ) → Type 0
-  Opens r out′ = (r ≡ openOf instance key nonce assoc text tag out) × (out′ ≡ openOut instance key nonce assoc text tag out)
-
-  pub open-refused : (n : ℕ) → n ≡ refusalFor instance key nonce assoc text out tag → (n ≡ 0 → ⊥) → Opens (record { number = n; rounds = 0 }) out
-  unfolding openOf openOut
+  pub open-refused : (n : ℕ) → n ≡ refusalFor instance key nonce assoc text out tag → (n ≡ 0 → ⊥) → Opens instance key nonce assoc text tag out (record { number = n; rounds = 0 }) out
   open-refused n e f =
-      let no = ne-eqb (refusalFor instance key nonce assoc text out tag) 0 (λ z. f (e ∙ z)) in
-      (rw (no, e), rw no)
+      subst (λ (k : ℕ). Opens instance key nonce assoc text tag out (record { number = k; rounds = 0 }) out) (sym e)
+      (opening-refused instance key nonce assoc text tag out (λ z. f (e ∙ z)))
 
   pub open-done : refusalFor instance key nonce assoc text out tag ≡ 0 → (b : begins.Begun) → b ≡ beginOpenOf instance key nonce tag (length assoc) (length text)
       → (s : Sliced) → s ≡ sliceOf (b .job) assoc text out 15816 → (out′ : List ℕ) → out′ ≡ outOf (b .job) assoc text out 15816
-      → Opens (record { number = s .number; rounds = s .rounds }) out′
+      → Opens instance key nonce assoc text tag out (record { number = s .number; rounds = s .rounds }) out′
   unfolding openOf openOut beginOpenOf answer begunJob
   open-done none b eb s es out′ eo =
       let h = fits instance key nonce assoc text out tag none in

@@ -10,7 +10,9 @@ use native.Mathlib.Omega.{arith}
 use lib.ListN.{length, replicate}
 use borrow.Author.Tests.{eq-eqb, ne-eqb, lt-ltb, le-ltb}
 use Rattle.bits.specs.Pick.{pick}
-use Rattle.stopping.specs.Course.{lasts, halted, endedBy}
+use Rattle.stopping.specs.Stopped.{stopped}
+use Rattle.stopping.specs.Parts.{row}
+use Rattle.stopping.specs.Course.{parts, lasts, halted, endedBy}
 use Rattle.stopping.specs.Follows.{following, unended}
 use Rattle.mode.specs.Paper.{seal, Opened}
 use Rattle.mode.specs.PaperLaws.{open-sealed, enc-length, length-mac}
@@ -46,7 +48,7 @@ module _ (instance : ℕ) (key nonce : List ℕ) (a m : ℕ) where
   one-opening-begun tag r r′ h k = h ∙ sym k
 
 module _ (j : Job) (assoc text out : List ℕ) (budget : ℕ) where
-  abbrev Slices : Sliced → List ℕ → Type 0
+  abbrev pub Slices : Sliced → List ℕ → Type 0
   Slices r out′ = (r ≡ sliceOf j assoc text out budget) × (out′ ≡ outOf j assoc text out budget)
 
   pub one-slice : (r r′ : Sliced) (o o′ : List ℕ) → Slices r o → Slices r′ o′ → (r ≡ r′) × (o ≡ o′)
@@ -61,7 +63,7 @@ module _ (j : Job) (assoc text out : List ℕ) (budget : ℕ) where
       (rw (sliceOf, no), rw (outOf, no))
 
 module _ (instance : ℕ) (key nonce assoc text out tag : List ℕ) where
-  abbrev Seals : Answer → (out′ tag′ : List ℕ) → Type 0
+  abbrev pub Seals : Answer → (out′ tag′ : List ℕ) → Type 0
   Seals r o t =
       (r ≡ sealOf instance key nonce assoc text out tag) × (o ≡ sealOut instance key nonce assoc text out tag) × (t ≡ sealTag instance key nonce assoc text out tag)
 
@@ -85,7 +87,7 @@ module _ (instance : ℕ) (key nonce assoc text out tag : List ℕ) where
   one-sealing-in-c r r′ o o′ t t′ h k = (h .0 ∙ sym (k .0), h .1 ∙ sym (k .1), h .2 ∙ sym (k .2))
 
 module _ (instance : ℕ) (key nonce assoc text tag out : List ℕ) where
-  abbrev Opens : Answer → (out′ : List ℕ) → Type 0
+  abbrev pub Opens : Answer → (out′ : List ℕ) → Type 0
   Opens r o = (r ≡ openOf instance key nonce assoc text tag out) × (o ≡ openOut instance key nonce assoc text tag out)
 
   pub one-opening : (r r′ : Answer) (o o′ : List ℕ) → Opens r o → Opens r′ o′ → (r ≡ r′) × (o ≡ o′)
@@ -144,12 +146,17 @@ module _ (j : Job) (assoc text out : List ℕ) (h : Begun j assoc text out) (n :
 
   pub after-the-end : (budget : ℕ) → lasts (courseOf j assoc text) (machineOf j out) ≤ n
       → (sliceOf (at j assoc text out h n) assoc text reached budget ≡ record { number = 10; rounds = 0; job = at j assoc text out h n })
+      × (outOf (at j assoc text out h n) assoc text reached budget ≡ reached)
+  unfolding halted
   after-the-end budget l =
       let c = courseOf j assoc text in
       let m = machineOf j out in
-      slice-at j assoc text out h n budget .0
-      ∙ ap (λ (b : Bool). pick b (record { number = numberOf (endedBy c (n + budget) m); rounds = min (n + budget) (lasts c m) - n; job = at j assoc text out h (n + budget) }) (record { number = 10; rounds = 0; job = at j assoc text out h n }))
-      (le-ltb n (lasts c m) l)
+      let past : min (n + budget) (lasts c m) ≡ min n (lasts c m) = omega (arith, l) in (
+        slice-at j assoc text out h n budget .0
+            ∙ ap (λ (b : Bool). pick b (record { number = numberOf (endedBy c (n + budget) m); rounds = min (n + budget) (lasts c m) - n; job = at j assoc text out h (n + budget) }) (record { number = 10; rounds = 0; job = at j assoc text out h n }))
+            (le-ltb n (lasts c m) l),
+        slice-at j assoc text out h n budget .1 ∙ ap (λ (k : ℕ). stopped (row (parts c)) k m .out) past,
+      )
 
 -- ---- slices to the end give what the whole call gives
 
