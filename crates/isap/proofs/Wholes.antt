@@ -1,14 +1,13 @@
 -- Whole calls, from their refusal, their beginning and their one slice.
 -- Assumes nothing.
 use mathlib.Core.Path.{_≡_, refl, sym, ap, _∙_, subst}
-use mathlib.Core.Bool.{Bool, true}
+use mathlib.Core.Bool.{true}
 use mathlib.Core.Logic.{_⊎_, inl, inr}
 use mathlib.Core.List.{List}
 use Prim.Native.Nat.{ℕ, _+_, _-_, _≤_}
 use native.Mathlib.Omega.{arith}
 use lib.ListN.{length, replicate}
 use borrow.Author.Tests.{eq-eqb}
-use Rattle.bits.specs.Pick.{pick}
 use Rattle.bits.specs.Every.{passes}
 use Rattle.mode.specs.Instances.{paramsOf, known}
 use Rattle.mode.specs.Counts.{verifyRounds, encryptRounds}
@@ -18,18 +17,14 @@ use Rattle.isap.specs.declared.Begun as begins
 use Rattle.isap.specs.declared.Sliced.{Sliced}
 use Rattle.isap.specs.Records.{ran}
 use Rattle.isap.specs.Slices.{lentOf, numberOf, refusalOf, answer, sliceOf, outOf}
-use Rattle.isap.specs.Beginnings.{limitsRefusal, tagRefusal, orElse, begunJob, noJob, begunOr, beginSealOf, beginOpenOf}
-use Rattle.isap.specs.Begun.{begun-stands}
+use Rattle.isap.specs.Beginnings.{limitsRefusal, tagRefusal, orElse, begunJob, beginSealOf, beginOpenOf}
+use Rattle.isap.specs.Begun.{begun-job, begun-stands}
 use Rattle.isap.specs.Whole.{refusalFor, sealOf, sealOut, sealTag, openOf, openOut}
 use Rattle.isap.specs.Fits.{fits, or-zero}
 use Rattle.isap.specs.Promises.{Seals, Opens, sealing-refused, opening-refused}
 use Rattle.isap.specs.Runs.{sealing-answer, sealing-writes, sealing-tags, opening-answer, opening-writes}
 
 -- ---- one slice of a job just begun
-
-begun-job : (r : ℕ) (j : Job) → r ≡ 0 → begunOr r j .job ≡ j
-unfolding begunOr
-begun-job r j e = ap (λ (b : Bool). pick {A = begins.Begun} b (record { number = 100; job = j }) (record { number = r; job = noJob }) .job) (eq-eqb r 0 e)
 
 module _ (instance direction : ℕ) (key nonce tag assoc text out : List ℕ) (isKnown : known instance ≡ true) (way : (direction ≡ 1) ⊎ (direction ≡ 2))
     (assocLimit : length assoc ≤ 256) (textLimit : length text ≤ 4096) (long : length out ≡ length text) where

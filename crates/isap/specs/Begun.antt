@@ -16,9 +16,10 @@ use Rattle.mode.specs.Instances.{paramsOf, known, lawful-instance}
 use Rattle.mode.specs.Counts.{frontCount, backCount, front-pos}
 use Rattle.plan.specs.declared.places.Place.{Place}
 use Rattle.isap.specs.declared.Job.{Job}
+use Rattle.isap.specs.declared.Begun as begins
 use Rattle.isap.specs.Records.{sealingOf, shapesOf, totalOf}
 use Rattle.isap.specs.Slices.{endingRight, samePlace, placeRight, limitsRight, standsOf}
-use Rattle.isap.specs.Beginnings.{limitsRefusal, tagRefusal, orElse, begunJob, noJob}
+use Rattle.isap.specs.Beginnings.{limitsRefusal, tagRefusal, orElse, begunJob, noJob, begunOr}
 
 -- ---- no refusal: everything is within its limits
 
@@ -118,3 +119,8 @@ module _ (instance direction : ℕ) (key nonce tag : List ℕ) (a m : ℕ) where
       let lim : limitsRight (begun .instance) (begun .direction) (begun .assoc) (begun .text) ≡ true =
       unfold begunJob in limits-within instance direction a m k d ha hm in
       λ i. passes (lim i ∷ done-begun i ∷ ending-begun i ∷ place-begun i ∷ [])
+
+-- the record of a beginning that is not refused
+pub begun-job : (r : ℕ) (j : Job) → r ≡ 0 → begunOr r j .job ≡ j
+unfolding begunOr
+begun-job r j e = ap (λ (b : Bool). pick {A = begins.Begun} b (record { number = 100; job = j }) (record { number = r; job = noJob }) .job) (eq-eqb r 0 e)

@@ -2,13 +2,14 @@
 -- slices to the end give what the whole call gives; opening what sealing gave gives the message back.
 -- Assumes nothing.
 use mathlib.Core.Path.{_≡_, refl, sym, ap, _∙_, subst}
-use mathlib.Core.Bool.{Bool}
+use mathlib.Core.Bool.{Bool, true, false}
 use mathlib.Core.Logic.{_⊎_, inl, inr}
 use mathlib.Core.List.{List}
 use Prim.Native.Nat.{ℕ, _+_, _-_, _/_, _%_, _≤_, _<_, min}
 use native.Mathlib.Omega.{arith}
+use lib.Dec.{eqb}
 use lib.ListN.{length, replicate}
-use borrow.Author.Tests.{eq-eqb, ne-eqb, lt-ltb, le-ltb}
+use borrow.Author.Tests.{eqb-true, eq-eqb, ne-eqb, lt-ltb, le-ltb}
 use Rattle.bits.specs.Pick.{pick}
 use Rattle.stopping.specs.Stopped.{stopped}
 use Rattle.stopping.specs.Parts.{row}
@@ -26,7 +27,8 @@ use Rattle.isap.specs.declared.Sliced.{Sliced}
 use Rattle.isap.specs.declared.Answer.{Answer}
 use Rattle.isap.specs.Records.{courseOf, machineOf, ran}
 use Rattle.isap.specs.Slices.{numberOf, refusalOf, sliceOf, outOf}
-use Rattle.isap.specs.Beginnings.{limitsRefusal, begunJob, beginSealOf, beginOpenOf}
+use Rattle.isap.specs.Beginnings.{limitsRefusal, tagRefusal, orElse, begunJob, noJob, begunOr, beginSealOf, beginOpenOf}
+use Rattle.isap.specs.Begun.{limits-none, limits-small, or-none, begun-job}
 use Rattle.isap.specs.Whole.{refusalFor, sealOf, sealOut, sealTag, openOf, openOut, openedAnswer, openedOut, packed}
 use Rattle.isap.specs.Fits.{Fits, fits, unrefused}
 use Rattle.isap.specs.Runs.{runs, sealing-answer, sealing-writes, sealing-tags, opening-answer, opening-writes}
@@ -123,6 +125,67 @@ module _ (instance a m : ℕ) where
   pub one-plan-in-c : (f : Planned → ℕ) (r r′ : ℕ) → r ≡ packed (planOf instance a m .number) (f (planOf instance a m))
       → r′ ≡ packed (planOf instance a m .number) (f (planOf instance a m)) → r ≡ r′
   one-plan-in-c f r r′ h k = h ∙ sym k
+
+-- ---- a beginning that is not refused gives a record of which all this is said
+
+begun-number : (r : ℕ) (j : Job) → r ≤ 7 → begunOr r j .number ≡ 100 → r ≡ 0
+unfolding begunOr
+begun-number r j small e = go (eqb r 0) refl e
+  where
+    go : (b : Bool) → eqb r 0 ≡ b → pick {A = begins.Begun} b (record { number = 100; job = j }) (record { number = r; job = noJob }) .number ≡ 100 → r ≡ 0
+    go true q n = eqb-true r 0 q
+    go false q n = absurd (omega (arith, small, n))
+
+refusal-small : (r s : ℕ) → r ≤ 7 → s ≤ 7 → orElse r s ≤ 7
+unfolding orElse
+refusal-small r s h k = go (eqb r 0)
+  where
+    go : (b : Bool) → pick b s r ≤ 7
+    go true = k
+    go false = h
+
+tag-small : (t : ℕ) → tagRefusal t ≤ 7
+unfolding tagRefusal
+tag-small t = go (eqb t 16)
+  where
+    go : (b : Bool) → pick {A = ℕ} b 0 7 ≤ 7
+    go true = omega arith
+    go false = omega arith
+
+module _ (instance direction : ℕ) (key nonce tag : List ℕ) (a m : ℕ) (assoc text out : List ℕ)
+    (ha : length assoc ≡ a) (ht : length text ≡ m) (ho : length out ≡ m) (way : (direction ≡ 1) ⊎ (direction ≡ 2)) where
+  begins-as : (r : ℕ) → r ≤ 7 → (r ≡ 0 → limitsRefusal instance (length key) (length nonce) a m ≡ 0)
+      → begunOr r (begunJob instance direction key nonce tag a m) .number ≡ 100 → Begun (begunOr r (begunJob instance direction key nonce tag a m) .job) assoc text out
+  unfolding begunJob
+  begins-as r small limits e =
+      let none = begun-number r (begunJob instance direction key nonce tag a m) small e in
+      let l = limits-none instance (length key) (length nonce) a m (limits none) in
+      subst (λ (y : Job). Begun y assoc text out) (sym (begun-job r (begunJob instance direction key nonce tag a m) none))
+      (record {
+        isKnown = l .0;
+        isDirection = way;
+        assocLimit = l .3;
+        textLimit = l .4;
+        isBegun = refl;
+        assocLong = ha;
+        textLong = ht;
+        outLong = ho;
+      })
+
+module _ (instance : ℕ) (key nonce : List ℕ) (a m : ℕ) (assoc text out : List ℕ) (ha : length assoc ≡ a) (ht : length text ≡ m) (ho : length out ≡ m) where
+  pub sealing-begins : beginSealOf instance key nonce a m .number ≡ 100 → Begun (beginSealOf instance key nonce a m .job) assoc text out
+  unfolding beginSealOf
+  sealing-begins e =
+      begins-as instance 1 key nonce (replicate 16 0) a m assoc text out ha ht ho (inl refl) (limitsRefusal instance (length key) (length nonce) a m)
+      (omega (arith, limits-small instance (length key) (length nonce) a m)) (λ z. z) e
+
+  pub opening-begins : (tag : List ℕ) → beginOpenOf instance key nonce tag a m .number ≡ 100 → Begun (beginOpenOf instance key nonce tag a m .job) assoc text out
+  unfolding beginOpenOf
+  opening-begins tag e =
+      let r = limitsRefusal instance (length key) (length nonce) a m in
+      begins-as instance 2 key nonce tag a m assoc text out ha ht ho (inr refl) (orElse r (tagRefusal (length tag)))
+      (refusal-small r (tagRefusal (length tag)) (omega (arith, limits-small instance (length key) (length nonce) a m)) (tag-small (length tag)))
+      (λ z. or-none r (tagRefusal (length tag)) z .0) e
 
 -- ---- a budget of 0, and a slice after the end
 
