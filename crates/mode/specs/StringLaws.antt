@@ -8,8 +8,8 @@ use native.Mathlib.Nat.{suc-mul}
 use native.Mathlib.Omega.{arith}
 use lib.Dec.{lit<, eqb}
 use borrow.Author.Tests.{eqb-true, eq-eqb}
-use lib.ListN.{length, getD, drop, set, length-append, length-set, length-drop, length-take}
-use lib.Seq.{drop-drop, set-append-left, drop-append-le}
+use lib.ListN.{length, getD, take, drop, set, replicate, length-append, length-set, length-drop, length-take}
+use lib.Seq.{drop-drop, set-append-left, drop-append-le, take-append-le}
 use lib.Bits.{bitXor, xor-lt}
 use Rattle.bits.specs.Pick.{pick}
 use Rattle.bits.specs.Number.{value, value-lt}
@@ -87,6 +87,14 @@ bytes-padded b s h = bytes-append h (cons-bytes (lit< tt) (bytes-zeros (b - 1 - 
 -- the blocks after block i
 pub drop-next : (b i : ℕ) (s : List ℕ) → drop b (drop (i * b) s) ≡ drop (suc i * b) s
 drop-next b i s = drop-drop b (i * b) s ∙ ap (λ (k : ℕ). drop k s) (sym (suc-mul i b))
+
+-- a block that the string fills
+pub block-full : (b i : ℕ) (str : List ℕ) → i * b + b ≤ length str → block b i (padded b str) ≡ take b (drop (i * b) str)
+unfolding block padded
+block-full b i str h =
+    let pad : List ℕ = 128 ∷ replicate (b - 1 - length str % b) 0 in
+    ap (take b) (drop-append-le (i * b) str pad (omega arith))
+    ∙ take-append-le b (drop (i * b) str) pad (omega (arith, length-drop (i * b) str))
 
 -- ---- the test of equality
 

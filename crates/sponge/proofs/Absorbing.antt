@@ -48,14 +48,6 @@ xorInto-pad [] k (y ∷ s) h = ap (λ (u : List ℕ). bitXor y 128 ∷ u) (xorIn
 xorInto-pad (x ∷ xs) k [] h = absurd (omega arith)
 xorInto-pad (x ∷ xs) k (y ∷ s) h = ap (λ (u : List ℕ). bitXor y x ∷ u) (xorInto-pad xs k s (omega arith))
 
--- a block that the string fills
-pub block-full : (b i : ℕ) (str : List ℕ) → i * b + b ≤ length str → block b i (padded b str) ≡ take b (drop (i * b) str)
-unfolding block padded
-block-full b i str h =
-    let pad : List ℕ = 128 ∷ replicate (b - 1 - length str % b) 0 in
-    ap (take b) (drop-append-le (i * b) str pad (omega arith))
-    ∙ take-append-le b (drop (i * b) str) pad (omega (arith, length-drop (i * b) str))
-
 -- the last block
 block-last : (b i : ℕ) (str : List ℕ) → i * b ≤ length str → length str < i * b + b
     → block b i (padded b str) ≡ drop (i * b) str ++ (128 ∷ replicate (b - 1 - (length str - i * b)) 0)
@@ -78,7 +70,3 @@ absorb-last b i str s h k n =
     ap (λ (u : List ℕ). xorInto u s) (block-last b i str h k)
     ∙ xorInto-pad (drop (i * b) str) (b - 1 - j) s (omega arith)
     ∙ ap (λ (u : ℕ). xorAt u 128 (xorInto (drop (i * b) str) s)) e
-
--- where a block of a padded string starts
-pub pad-offset : (i m b : ℕ) → i < m / b + 1 → i * b ≤ m
-pad-offset i m b h = let k : i ≤ m / b = omega arith in le-trans (mul-le-mul-right b k) (div-mul-le-self m b)

@@ -2,4 +2,3 @@ mod Absorbing
 mod Placing
 mod Picked
 mod Agreeing
-mod Engines

@@ -84,12 +84,6 @@ xors-more (y ∷ s) (x ∷ xs) [] i h k e = absurd (omega arith)
 xors-more (y ∷ s) (x ∷ xs) (z ∷ o) zero h k e = ap (λ (u : List ℕ). bitXor y x ∷ (u ++ o)) (sym (xors-none s))
 xors-more (y ∷ s) (x ∷ xs) (z ∷ o) (suc i) h k e = ap (λ (u : List ℕ). bitXor y x ∷ u) (xors-more s xs o i (omega arith) (omega arith) (omega arith))
 
--- where a block of text starts
-pub text-offset : (p : Params) (i m : ℕ) → 0 < p .b → i < blocks p m → i * p .b ≤ m
-unfolding blocks
-text-offset p i m pos h =
-    omega (arith, mul-le-mul-right (p .b) h, div-mul-le-self (m + (p .b - 1)) (p .b), suc-mul i (p .b))
-
 -- the part of a text up to its block's end is the block
 text-part : (b i e : ℕ) (text : List ℕ) → i * b ≤ length text → e ≡ min (i * b + b) (length text) → take (e - i * b) (drop (i * b) text) ≡ block b i text
 unfolding block

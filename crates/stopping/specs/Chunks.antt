@@ -8,7 +8,7 @@ use borrow.Author.Tests.{ne-eqb}
 use Rattle.bits.specs.Run.{turns}
 use Rattle.stopping.specs.Stopped.{Call, entered, left, one, left-more}
 use Rattle.stopping.specs.Parts.{roundsIn, shapes, shapes-append}
-use Rattle.stopping.specs.Places.{Place, place, placeOf, callAt, rounds-at, place-past, place-back, place-start, Moves, moves}
+use Rattle.stopping.specs.Places.{Place, place, placeOf, callAt, rounds-at, place-past, place-back, into, place-start, Moves, moves}
 use Rattle.stopping.specs.Course.{Course, parts, frontRounds, backRounds, Core, endingOf, coreAt, standsAt, step, steps, Lawful}
 use Rattle.stopping.specs.Follows.{steps-snoc, step-on, all-rounds, all-some}
 
@@ -22,26 +22,26 @@ entered-not f zero m h = absurd (omega arith)
 entered-not f (suc j) m h = refl
 
 module _ {M : Type 0} (c : Course M) (l : Lawful c) where
-  -- the decision and the end stand at the start of a call
-  decision-starts : standsAt c (frontRounds c) .round ≡ 0
+  -- the decision and the end stand at the start of a part
+  decision-starts : into (standsAt c (frontRounds c)) ≡ 0
   unfolding standsAt frontRounds
   decision-starts =
       let v = roundsIn (shapes (c .front)) in
       let e : v ≡ v + 0 = sym (add-zero v) in
-      ap₂ (λ hs n. placeOf hs n .round) (shapes-append (c .front) (c .back)) e
-      ∙ ap Place.round (place-back (shapes (c .front)) (shapes (c .back)) 0) ∙ place-start (shapes (c .back))
+      ap₂ (λ hs n. into (placeOf hs n)) (shapes-append (c .front) (c .back)) e
+      ∙ ap into (place-back (shapes (c .front)) (shapes (c .back)) 0) ∙ place-start (shapes (c .back))
 
-  end-starts : standsAt c (frontRounds c + backRounds c) .round ≡ 0
+  end-starts : into (standsAt c (frontRounds c + backRounds c)) ≡ 0
   unfolding standsAt
-  end-starts = ap Place.round (place-past (shapes (parts c)) (frontRounds c + backRounds c) (omega (arith, all-rounds c)))
+  end-starts = ap into (place-past (shapes (parts c)) (frontRounds c + backRounds c) (omega (arith, all-rounds c)))
 
-  -- so a round inside a call ends nothing
-  inside : (d : ℕ) (m : M) → 0 < standsAt c d .round → coreAt c d m .ending ≡ 0
+  -- so a round inside a part ends nothing
+  pub inside : (d : ℕ) (m : M) → 0 < into (standsAt c d) → coreAt c d m .ending ≡ 0
   unfolding endingOf
   inside d m h =
       rw (
-        ne-eqb d (frontRounds c) (λ e. omega (arith, decision-starts, ap (λ (n : ℕ). standsAt c n .round) e)),
-        ne-eqb d (frontRounds c + backRounds c) (λ e. omega (arith, end-starts, ap (λ (n : ℕ). standsAt c n .round) e)),
+        ne-eqb d (frontRounds c) (λ e. omega (arith, decision-starts, ap (λ (n : ℕ). into (standsAt c n)) e)),
+        ne-eqb d (frontRounds c + backRounds c) (λ e. omega (arith, end-starts, ap (λ (n : ℕ). into (standsAt c n)) e)),
       )
 
   module _ (j : Core M) (going : j .ending ≡ 0) (more : j .done < frontRounds c + backRounds c) where
@@ -69,7 +69,7 @@ module _ {M : Type 0} (c : Course M) (l : Lawful c) where
         let d : ℕ = j .done + suc k in
         let e = further (suc k) h in
         let inner = left-more f (w .round + k) m (omega arith) in
-        let i : 0 < standsAt c d .round = omega (arith, ap Place.round e) in
+        let i : 0 < into (standsAt c d) = omega (arith, ap Place.round e) in
         ap (λ (u : M). step c (coreAt c d u)) inner
         ∙ step-on c (coreAt c d m) (inside d m i)
         ∙ ap (λ (v : Place). coreAt c (suc d) (one (callAt (parts c) v) (v .round) m)) e

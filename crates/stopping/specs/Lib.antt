@@ -6,4 +6,5 @@ pub mod Kept
 pub mod Course
 pub mod Follows
 pub mod Chunks
+pub mod Wholes
 pub mod Halts

@@ -68,16 +68,20 @@ place-back (h ∷ hs) ks n =
     ∙ ap onward (place-back hs ks n)
     ∙ ap (λ (j : ℕ). place j (w .call) (w .round)) (omega arith)
 
--- the start of parts is the start of a call
-pub place-start : (hs : List Shape) → placeOf hs 0 .round ≡ 0
+-- 0 exactly at the start of a part
+abbrev pub into : Place → ℕ
+into w = w .call + w .round
+
+-- the start of parts is the start of a part
+pub place-start : (hs : List Shape) → into (placeOf hs 0) ≡ 0
 unfolding placeOf
 place-start [] = refl
 place-start (h ∷ hs) =
     elim (decLt 0 (h .count * h .rounds)) [
-      | yes l ↦ ap Place.round (place-here h hs 0 l) ∙ zero-mod (h .rounds)
+      | yes l ↦ ap into (place-here h hs 0 l) ∙ ap₂ (λ (q r : ℕ). q + r) (zero-div (h .rounds)) (zero-mod (h .rounds))
       | no f ↦
-          ap Place.round (place-on h hs 0 (omega arith))
-          ∙ ap (λ (n : ℕ). placeOf hs n .round) (omega arith) ∙ place-start hs
+          ap into (place-on h hs 0 (omega arith))
+          ∙ ap (λ (n : ℕ). into (placeOf hs n)) (omega arith) ∙ place-start hs
     ]
 
 -- inside the parts a place is of a call and a round that are there

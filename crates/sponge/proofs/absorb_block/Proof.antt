@@ -6,7 +6,7 @@ use lib.ListN.{length}
 use borrow.Author.Needs.{needs}
 use Rattle.mode.specs.Strings.{xorInto, block, padded}
 use Rattle.mode.specs.Instances.{paramsOf}
-use Rattle.sponge.proofs.Absorbing.{pad-offset}
+use Rattle.sponge.specs.Offsets.{pad-offset}
 use Rattle.sponge.proofs.absorb_block.Statement.{statement}
 use Rattle.sponge.proofs.absorb_block.Tie as tie
 

@@ -12,7 +12,8 @@ use Rattle.bits.specs.Xors.{xors}
 use Rattle.mode.specs.Strings.{block}
 use Rattle.mode.specs.Instances.{paramsOf, lawful-instance}
 use Rattle.sponge.specs.Leaves.{CanLeave}
-use Rattle.sponge.proofs.Placing.{text-offset, wrote}
+use Rattle.sponge.specs.Offsets.{text-offset}
+use Rattle.sponge.proofs.Placing.{wrote}
 use Rattle.sponge.proofs.leave_out.Statement.{statement}
 use Rattle.sponge.proofs.leave_out.Tie as tie
 

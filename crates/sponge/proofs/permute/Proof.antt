@@ -2,7 +2,7 @@
 -- Assumes nothing.
 use mathlib.Core.Path.{sym, _∙_}
 use native.Mathlib.Omega.{arith}
-use Rattle.sponge.proofs.Engines.{ascon-1, ascon-2, keccak-else}
+use Rattle.sponge.specs.Engines.{ascon-1, ascon-2, keccak-else}
 use Rattle.sponge.proofs.permute.Statement.{statement}
 use Rattle.sponge.proofs.permute.Tie as tie
 

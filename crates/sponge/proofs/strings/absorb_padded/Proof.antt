@@ -8,7 +8,8 @@ use lib.ListN.{length, take, drop, length-drop}
 use lib.Seq.{take-all}
 use borrow.Author.Needs.{needs}
 use Rattle.mode.specs.Strings.{xorInto, xorAt}
-use Rattle.sponge.proofs.Absorbing.{block-full, absorb-last}
+use Rattle.mode.specs.StringLaws.{block-full}
+use Rattle.sponge.proofs.Absorbing.{absorb-last}
 use Rattle.sponge.proofs.strings.absorb_padded.Statement.{statement}
 use Rattle.sponge.proofs.strings.absorb_padded.Tie as tie
 
