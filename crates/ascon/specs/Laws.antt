@@ -4,10 +4,10 @@
 use mathlib.Core.Path.{_≡_, refl, sym, ap, _∙_}
 use mathlib.Core.List.{List, _++_}
 use Prim.Native.Nat.{ℕ, zero, suc, _+_, _-_, _^_, _≤_, _<_}
-use native.Mathlib.Nat.{mod-eq-of-lt, min-eq-left}
+use native.Mathlib.Nat.{mod-eq-of-lt}
 use native.Mathlib.Omega.{arith}
 use lib.Dec.{lit≤}
-use lib.ListN.{length, take, drop, length-take, length-drop}
+use lib.ListN.{length, take, drop}
 use lib.Seq.{take-all}
 use lib.Bits.{xor-lt}
 use Rattle.bits.specs.Digit.{bit}
@@ -15,7 +15,7 @@ use Rattle.bits.specs.Number.{number-lt}
 use Rattle.bits.specs.Rotate.{rotr, rotr-lt}
 use Rattle.bits.specs.Bytes.{Bytes, bytes-take, bytes-drop, bytes-append}
 use Rattle.bits.specs.BigEndian.{beBytes, fromBe, bytes-beBytes, fromBe-lt, fromBe-beBytes, beBytes-fromBe}
-use Rattle.bits.specs.Part.{parts, parts-take}
+use Rattle.bits.specs.Part.{length-part, parts, parts-take}
 use Rattle.bits.specs.Run.{Keeps, rounds, turns}
 use Rattle.ascon.specs.declared.Words.{Words}
 use Rattle.ascon.specs.Permutation.{sbox, column, substituted, pC, pS, sigma, pL, p, wordsOf, bytesOf, asconRound, asconP}
@@ -88,7 +88,7 @@ bytes-bytesOf w =
 
 module _ (s : List ℕ) (l : 40 ≤ length s) (h : Bytes s) where
   eight : (m : ℕ) → m + 8 ≤ 40 → length (take 8 (drop m s)) ≡ 8
-  eight m k = length-take 8 (drop m s) ∙ min-eq-left (omega (arith, length-drop m s))
+  eight m k = length-part s m 8 (omega arith)
 
   bytes : (m : ℕ) → Bytes (take 8 (drop m s))
   bytes m = bytes-take 8 (bytes-drop m h)

@@ -8,6 +8,7 @@ ghost use lib.ListN.{getD, length, take, drop};
 ghost use Rattle.bits.specs.BigEndian.{beBytes, fromBe};
 ghost use Rattle.bits.specs.Rotate.{rotr};
 ghost use Rattle.bits.specs.Run.{rounds as Rounds, run as Run};
+ghost use Rattle.bits.specs.Xors.{xors};
 ghost use Rattle.ascon.specs.Permutation.{constants, pC, pS, sigma, pL, wordsOf, bytesOf, asconRound};
 
 pub struct Words {
@@ -194,4 +195,40 @@ pub fn rounds(state: &mut [u8], from: u32, count: u32)
 {
     let w = run(words_of(state), from, count);
     put_words(state, w);
+}
+
+// The state with a byte xored into its first byte.
+pub fn with_first(w: Words, v: u8) -> Words
+    ensures { λ r. ⌜ bytesOf r ≡ xors (bytesOf w) (v ∷ []) ++ drop 1 (bytesOf w) ⌝ }
+{
+    Words {
+        x0: w.x0 ^ ((v as u64) << 56),
+        x1: w.x1,
+        x2: w.x2,
+        x3: w.x3,
+        x4: w.x4,
+    }
+}
+
+// The state with the block of a slice that starts at `at` xored into its first bytes.
+pub fn absorbed(w: Words, s: &[u8], at: usize) -> Words
+    requires { ⌜ at + 8 ≤ length (now s) ⌝ }
+    ensures { λ r. ⌜ bytesOf r ≡ xors (bytesOf w) (take 8 (drop at (now (s .entry)))) ++ drop 8 (bytesOf w) ⌝ }
+{
+    Words {
+        x0: w.x0 ^ load(s, at),
+        x1: w.x1,
+        x2: w.x2,
+        x3: w.x3,
+        x4: w.x4,
+    }
+}
+
+// The block of a text that starts at `at`, xored with the state's first bytes, put at the same place of an output.
+pub fn write_xored(out: &mut [u8], at: usize, text: &[u8], w: Words)
+    requires { ⌜ (at + 8 ≤ length (now text)) × (at + 8 ≤ length (now out)) ⌝ }
+    ensures { λ _. ⌜ now (out .exit)
+        ≡ take at (now (out .entry)) ++ (xors (bytesOf w) (take 8 (drop at (now (text .entry)))) ++ drop (at + 8) (now (out .entry))) ⌝ }
+{
+    store(out, at, w.x0 ^ load(text, at));
 }

@@ -8,8 +8,9 @@ use native.Mathlib.Omega.{arith}
 use lib.ListN.{length}
 use lib.Arith.{digits-lt, digits-div, mod-mul}
 use lib.Pow.{pow-add}
-use lib.Bits.{bitOr, or-shifted}
+use lib.Bits.{bitOr, or-shifted, bitXor, xor-shr, xor-mod}
 use Rattle.bits.specs.Bytes.{Bytes, head-byte, tail-bytes, no-bytes, cons-bytes, bytes-pos}
+use Rattle.bits.specs.Xors.{xors}
 
 -- the n low bytes of x, the most significant first
 unfoldable pub beBytes : ℕ → ℕ → List ℕ
@@ -106,3 +107,15 @@ or-all (b ∷ s) h k =
 pub or-bytes : (b : ℕ) (s : List ℕ) → Bytes s → orBytes (b * 256 ^ length s) s ≡ fromBe (b ∷ s)
 unfolding fromBe
 or-bytes b s k = or-all s b k
+
+-- ---- the bytes of a xor
+
+xor-byte : (n x y : ℕ) → bitXor x y / 256 ^ n % 256 ≡ bitXor (x / 256 ^ n % 256) (y / 256 ^ n % 256)
+xor-byte n x y =
+    subst (λ (m : ℕ). bitXor x y / m % 256 ≡ bitXor (x / m % 256) (y / m % 256)) (sym (pow-256 n))
+    (ap (λ (m : ℕ). m % 256) (xor-shr x y (8 * n)) ∙ xor-mod (x / 2 ^ (8 * n)) (y / 2 ^ (8 * n)) 8)
+
+pub beBytes-xor : (n x y : ℕ) → beBytes n (bitXor x y) ≡ xors (beBytes n x) (beBytes n y)
+unfolding beBytes xors
+beBytes-xor zero x y = refl
+beBytes-xor (suc n) x y = ap₂ (λ (z : ℕ) (s : List ℕ). z ∷ s) (xor-byte n x y) (beBytes-xor n x y)

@@ -8,8 +8,10 @@ use native.Mathlib.Decide.{decLt}
 use native.Mathlib.Omega.{arith}
 use lib.ListN.{length, getD}
 use lib.Arith.{digits-lt, digits-div, digits-mod, mod-mul}
+use lib.Bits.{bitXor, xor-shr, xor-mod}
 use Rattle.bits.specs.Digit.{bit, bit-mod, bit-shr, bit-high}
 use Rattle.bits.specs.Bytes.{Bytes, head-byte, tail-bytes, no-bytes, cons-bytes, bytes-pos}
+use Rattle.bits.specs.Xors.{xors}
 
 -- the n low bytes of x, the least significant first
 unfoldable pub leBytes : ℕ → ℕ → List ℕ
@@ -51,6 +53,13 @@ leBytes-fromLe [] h = refl
 leBytes-fromLe (b ∷ s) h =
     ap₂ (λ (x : ℕ) (r : List ℕ). x ∷ r) (digits-mod (fromLe s) (head-byte h))
     (ap (leBytes (length s)) (digits-div (fromLe s) (head-byte h)) ∙ leBytes-fromLe s (tail-bytes h))
+
+-- the bytes of a xor
+pub leBytes-xor : (n x y : ℕ) → leBytes n (bitXor x y) ≡ xors (leBytes n x) (leBytes n y)
+unfolding leBytes xors
+leBytes-xor zero x y = refl
+leBytes-xor (suc n) x y =
+    ap₂ (λ (z : ℕ) (s : List ℕ). z ∷ s) (xor-mod x y 8) (ap (leBytes n) (xor-shr x y 8) ∙ leBytes-xor n (x / 256) (y / 256))
 
 -- ---- the digits of a number, by its little-endian bytes: digit i stands in byte i / 8, at place i % 8
 

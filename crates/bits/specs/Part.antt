@@ -6,8 +6,8 @@ use mathlib.Core.List.{List, [], _∷_, _++_}
 use Prim.Native.Nat.{ℕ, zero, suc, _+_, _*_, _≤_}
 use native.Mathlib.Nat.{add-suc, zero-mul, suc-mul, add-zero, le-trans, le-add-right, not-suc-le-zero}
 use native.Mathlib.Omega.{arith}
-use lib.ListN.{length, getD, set, take, drop, length-append}
-use lib.Seq.{drop-cons, take-add, sets, sets-eq, take-at, drop-append-add, drop-drop, take-take}
+use lib.ListN.{length, getD, set, take, drop, length-append, length-drop}
+use lib.Seq.{length-take-le, drop-cons, take-add, sets, sets-eq, take-at, drop-append-add, drop-drop, take-take}
 use mathlib.Core.List.{append-assoc}
 
 -- ---- reads
@@ -28,6 +28,9 @@ pub part-elems : (s : List ℕ) (at n : ℕ) → at + suc n ≤ length s → tak
 part-elems s at n h =
     ap (λ (m : ℕ). take (suc n) (drop m s)) (sym (add-zero at)) ∙ part s at 0 (suc n) (omega arith)
     ∙ ap (λ (m : ℕ). getD s m 0 ∷ elems s at 1 n) (add-zero at)
+
+pub length-part : (s : List ℕ) (at n : ℕ) → at + n ≤ length s → length (take n (drop at s)) ≡ n
+length-part s at n h = length-take-le n (drop at s) (omega (arith, length-drop at s))
 
 -- ---- stores
 

@@ -1,15 +1,15 @@
 -- The xor of two byte strings, byte by byte, as far as the shorter goes.
 -- Assumes nothing.
-use mathlib.Core.Path.{_≡_, refl, ap, ap₂, _∙_}
+use mathlib.Core.Path.{_≡_, refl, sym, ap, ap₂, _∙_}
 use mathlib.Core.Bool.{Bool, true, false}
 use mathlib.Core.List.{List, [], _∷_, _++_}
 use Prim.Native.Nat.{ℕ, zero, suc, _+_, _^_, _≤_, _<_, min}
 use native.Mathlib.Nat.{lt-of-lt-of-le, pow-suc}
 use native.Mathlib.Omega.{arith}
 use lib.Dec.{lit<}
-use lib.ListN.{length}
+use lib.ListN.{length, drop, replicate}
 use lib.Pow.{pow-mono}
-use lib.Bits.{bitXor, xor-lt, xor-comm}
+use lib.Bits.{bitXor, xor-lt, xor-comm, xor-zero-r}
 use Rattle.bits.specs.Digit.{bit, bit-xor, _⊕_}
 use Rattle.bits.specs.Number.{bit-ext}
 use Rattle.bits.specs.Bytes.{Bytes, head-byte, tail-bytes, no-bytes, cons-bytes}
@@ -38,6 +38,11 @@ xors-comm [] (y ∷ ys) = refl
 xors-comm (x ∷ xs) [] = refl
 xors-comm (x ∷ xs) (y ∷ ys) = ap₂ (λ (z : ℕ) (zs : List ℕ). z ∷ zs) (xor-comm x y) (xors-comm xs ys)
 
+pub xors-none : (xs : List ℕ) → xors xs [] ≡ []
+unfolding xors
+xors-none [] = refl
+xors-none (x ∷ xs) = refl
+
 -- what lies beyond the shorter string is not read
 pub xors-front : (xs t ys : List ℕ) → length ys ≤ length xs → xors (xs ++ t) ys ≡ xors xs ys
 unfolding xors
@@ -46,6 +51,19 @@ xors-front [] (z ∷ t) [] h = refl
 xors-front [] t (y ∷ ys) h = absurd (omega arith)
 xors-front (x ∷ xs) t [] h = refl
 xors-front (x ∷ xs) t (y ∷ ys) h = ap (λ (zs : List ℕ). bitXor x y ∷ zs) (xors-front xs t ys (omega arith))
+
+-- zeros change nothing, also behind a byte
+pub xors-zeros : (n : ℕ) (xs : List ℕ) → n ≤ length xs → xors xs (replicate n 0) ++ drop n xs ≡ xs
+unfolding xors
+xors-zeros zero xs h = ap (λ (zs : List ℕ). zs ++ xs) (xors-none xs)
+xors-zeros (suc n) [] h = absurd (omega arith)
+xors-zeros (suc n) (x ∷ xs) h = ap₂ (λ (z : ℕ) (zs : List ℕ). z ∷ zs) (xor-zero-r x) (xors-zeros n xs (omega arith))
+
+pub xors-first : (v n : ℕ) (xs : List ℕ) → suc n ≤ length xs → xors xs (v ∷ replicate n 0) ++ drop (suc n) xs ≡ xors xs (v ∷ []) ++ drop 1 xs
+unfolding xors
+xors-first v n [] h = absurd (omega arith)
+xors-first v n (x ∷ xs) h =
+    ap (λ (zs : List ℕ). bitXor x v ∷ zs) (xors-zeros n xs (omega arith) ∙ sym (ap (λ (zs : List ℕ). zs ++ xs) (xors-none xs)))
 
 -- ---- a xor undoes itself
 

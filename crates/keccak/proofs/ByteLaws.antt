@@ -4,19 +4,23 @@
 use mathlib.Core.Path.{_≡_, refl, sym, ap, _∙_}
 use mathlib.Core.List.{List, [], _++_}
 use Prim.Native.Nat.{ℕ, _+_, _*_, _/_, _%_, _≤_, _<_}
-use native.Mathlib.Nat.{min-eq-left, add-zero}
+use native.Mathlib.Nat.{add-zero}
 use native.Mathlib.Omega.{arith}
-use lib.ListN.{length, getD, take, drop, length-take, length-drop}
+use lib.ListN.{length, getD, take, drop}
 use lib.Seq.{getD-take, getD-drop, drop-drop}
 use Rattle.bits.specs.Digit.{bit, bit-mod}
 use Rattle.bits.specs.Bytes.{Bytes, bytes-take, bytes-drop, bytes-append}
 use Rattle.bits.specs.LittleEndian.{leBytes, fromLe, bytes-leBytes, fromLe-leBytes, leBytes-fromLe, bit-fromLe}
-use Rattle.bits.specs.Part.{parts, parts-take}
+use Rattle.bits.specs.Part.{length-part, parts, parts-take}
 use Rattle.keccak.specs.Fips202.{Rnd, stringBit, ofBytes, keccakRound}
 use Rattle.keccak.specs.Agree.{Agree, agree-trans, agree-sym, round-same}
 use Rattle.keccak.specs.Laws.{toBytes-same, toBytes-ofBytes}
 use Rattle.keccak.specs.Lanes.{lane, arrayOf, planeBytes, bytesOf, laneAt, planeAt, lanesOf}
 use Rattle.keccak.proofs.Five.{below5}
+
+pub length-plane : (p : List ℕ) → length (planeBytes p) ≡ 10
+unfolding planeBytes leBytes
+length-plane p = refl
 
 pub length-bytesOf : (a : List (List ℕ)) → length (bytesOf a) ≡ 50
 unfolding bytesOf planeBytes leBytes
@@ -82,10 +86,10 @@ round-bytes i a r h =
 
 module _ (s : List ℕ) (h : Bytes s) where
   -- the lane k bytes behind the start of the plane at i
-  lane-back : (i k m : ℕ) → i + k ≡ m → m + 2 ≤ length s → leBytes 2 (laneAt s m) ≡ take 2 (drop k (drop i s))
+  pub lane-back : (i k m : ℕ) → i + k ≡ m → m + 2 ≤ length s → leBytes 2 (laneAt s m) ≡ take 2 (drop k (drop i s))
   lane-back i k m e l =
       let t : List ℕ = take 2 (drop m s) in
-      let two : length t ≡ 2 = length-take 2 (drop m s) ∙ min-eq-left (omega (arith, length-drop m s)) in
+      let two : length t ≡ 2 = length-part s m 2 l in
       ap (λ (n : ℕ). leBytes n (fromLe t)) (sym two) ∙ leBytes-fromLe t (bytes-take 2 (bytes-drop m h))
       ∙ ap (take 2) (sym (drop-drop k i s ∙ ap (λ (n : ℕ). drop n s) e))
 

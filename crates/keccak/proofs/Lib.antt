@@ -3,3 +3,4 @@ pub mod Owned
 pub mod Written
 pub mod StepLaws
 pub mod ByteLaws
+pub mod Blocks

@@ -65,3 +65,14 @@ turnedLane p by x = rotl 16 (at by x) (at p x)
 -- χ
 abbrev pub chiLane : List ℕ → ℕ → ℕ
 chiLane p x = bitXor (at p x) (bitAnd (65535 - at p ((x + 1) % 5)) (at p ((x + 2) % 5)))
+
+-- a block of bytes from i on: a plane's five lanes xored with it, and its first four
+abbrev pub xoredLane : List ℕ → List ℕ → ℕ → ℕ → ℕ
+xoredLane p s x i = bitXor (at p x) (laneAt s i)
+
+abbrev pub fiveXored : List ℕ → List ℕ → ℕ → List ℕ
+fiveXored p s i =
+    xoredLane p s 0 i ∷ xoredLane p s 1 (i + 2) ∷ xoredLane p s 2 (i + 4) ∷ xoredLane p s 3 (i + 6) ∷ xoredLane p s 4 (i + 8) ∷ []
+
+abbrev pub fourXored : List ℕ → List ℕ → ℕ → List ℕ
+fourXored p s i = xoredLane p s 0 i ∷ xoredLane p s 1 (i + 2) ∷ xoredLane p s 2 (i + 4) ∷ xoredLane p s 3 (i + 6) ∷ at p 4 ∷ []

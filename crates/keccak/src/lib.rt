@@ -9,10 +9,11 @@ mod rho_pi;
 mod theta;
 
 ghost use mathlib.Core.Path.{_≡_};
-ghost use mathlib.Core.List.{_++_};
+ghost use mathlib.Core.List.{[], _∷_, _++_};
 ghost use Prim.Native.Nat.{_+_, _≤_, _<_};
-ghost use lib.ListN.{length, drop};
+ghost use lib.ListN.{length, take, drop};
 ghost use Rattle.bits.specs.Run.{rounds as Rounds, run as Run};
+ghost use Rattle.bits.specs.Xors.{xors};
 ghost use Rattle.keccak.specs.Fips202.{keccakRound};
 ghost use Rattle.keccak.specs.Lanes.{bytesOf, lanesOf};
 
@@ -74,4 +75,38 @@ pub fn rounds(state: &mut [u8], from: u32, count: u32)
     let a = lanes_of(state);
     let b = run(a, from, count);
     put_lanes(state, b);
+}
+
+// The state with a byte xored into its first byte.
+pub fn with_first(a: [[u16; 5]; 5], v: u8) -> [[u16; 5]; 5]
+    ensures { λ r. ⌜ bytesOf r ≡ xors (bytesOf a) (v ∷ []) ++ drop 1 (bytesOf a) ⌝ }
+{
+    let p = a[0];
+    let q = [p[0] ^ (v as u16), p[1], p[2], p[3], p[4]];
+    [q, a[1], a[2], a[3], a[4]]
+}
+
+// The state with the block of a slice that starts at `at` xored into its first bytes: nine lanes.
+pub fn absorbed(a: [[u16; 5]; 5], s: &[u8], at: usize) -> [[u16; 5]; 5]
+    requires { ⌜ at + 18 ≤ length (now s) ⌝ }
+    ensures { λ r. ⌜ bytesOf r ≡ xors (bytesOf a) (take 18 (drop at (now (s .entry)))) ++ drop 18 (bytesOf a) ⌝ }
+{
+    [
+        bytes::five_xored(a[0], s, at),
+        bytes::four_xored(a[1], s, at + 10),
+        a[2],
+        a[3],
+        a[4],
+    ]
+}
+
+// The block of a text that starts at `at`, xored with the state's first bytes, put at the same place of an output.
+pub fn write_xored(out: &mut [u8], at: usize, text: &[u8], a: [[u16; 5]; 5])
+    requires { ⌜ (at + 18 ≤ length (now text)) × (at + 18 ≤ length (now out)) ⌝ }
+    ensures { λ _. ⌜ now (out .exit)
+        ≡ take at (now (out .entry)) ++ (xors (bytesOf a) (take 18 (drop at (now (text .entry)))) ++ drop (at + 18) (now (out .entry))) ⌝ }
+{
+    let b = absorbed(a, text, at);
+    bytes::put_plane(out, at, b[0]);
+    bytes::put_four(out, at + 10, b[1]);
 }
