@@ -9,7 +9,7 @@ ghost use Rattle.bits.specs.BigEndian.{beBytes, fromBe};
 ghost use Rattle.bits.specs.Rotate.{rotr};
 ghost use Rattle.bits.specs.Run.{rounds as Rounds, run as Run};
 ghost use Rattle.bits.specs.Xors.{xors};
-ghost use Rattle.ascon.specs.Permutation.{constants, pC, pS, sigma, pL, wordsOf, bytesOf, asconRound};
+ghost use Rattle.ascon.specs.Permutation.{constants, pC, pS, sigma, pL, bytesOf, asconRound};
 
 pub struct Words {
     pub x0: u64,
@@ -165,7 +165,7 @@ fn store(s: &mut [u8], at: usize, x: u64)
 // The words of a buffer's first 40 bytes.
 pub fn words_of(s: &[u8]) -> Words
     requires { ⌜ 40 ≤ length (now s) ⌝ }
-    ensures { λ r. ⌜ r ≡ wordsOf (now (s .entry)) ⌝ }
+    ensures { λ r. ⌜ bytesOf r ≡ take 40 (now (s .entry)) ⌝ }
 {
     Words {
         x0: load(s, 0),

@@ -15,7 +15,7 @@ ghost use lib.ListN.{length, take, drop};
 ghost use Rattle.bits.specs.Run.{rounds as Rounds, run as Run};
 ghost use Rattle.bits.specs.Xors.{xors};
 ghost use Rattle.keccak.specs.Fips202.{keccakRound};
-ghost use Rattle.keccak.specs.Lanes.{bytesOf, lanesOf};
+ghost use Rattle.keccak.specs.Lanes.{bytesOf};
 
 // One round, of the round index `i`.
 pub fn round(a: [[u16; 5]; 5], i: u32) -> [[u16; 5]; 5]
@@ -44,7 +44,7 @@ pub fn run(a: [[u16; 5]; 5], from: u32, count: u32) -> [[u16; 5]; 5]
 // The lanes of the first 50 bytes of `s`.
 pub fn lanes_of(s: &[u8]) -> [[u16; 5]; 5]
     requires { ⌜ 50 ≤ length (now s) ⌝ }
-    ensures { λ r. ⌜ r ≡ lanesOf (now (s .entry)) ⌝ }
+    ensures { λ r. ⌜ bytesOf r ≡ take 50 (now (s .entry)) ⌝ }
 {
     [
         bytes::plane_at(s, 0),

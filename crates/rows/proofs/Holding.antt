@@ -13,17 +13,12 @@ use lib.Seq.{take-at, drop-at, length-take-le}
 use Rattle.bits.specs.Number.{value}
 use Rattle.bits.specs.Put.{putAt}
 use Rattle.bits.specs.Run.{rounds, run, Keeps, length-rounds, run-front}
-use Rattle.bits.specs.Xors.{xors, length-xors, xors-front}
+use Rattle.bits.specs.Xors.{xors, length-xors, xors-front, xors-none}
 use Rattle.mode.specs.Strings.{xorInto, xorAt, block, xorBit}
 use Rattle.mode.specs.StringLaws.{xorInto-front}
 use Rattle.rows.specs.Fed.{fed, nothingIn, writtenBy}
 
 -- ---- what enters, on the words' bytes u with t behind them
-
-xors-none : (s : List ℕ) → xors s [] ≡ []
-unfolding xors
-xors-none [] = refl
-xors-none (y ∷ s) = refl
 
 pub bit-enters : (y : Bool) (u t v : List ℕ) → 0 < length u → v ≡ xors u (value y * 128 ∷ []) ++ drop 1 u → xorBit y (u ++ t) ≡ v ++ t
 unfolding xorBit xorAt xors

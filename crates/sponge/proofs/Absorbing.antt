@@ -10,13 +10,8 @@ use lib.Arith.{digits-mod}
 use lib.Bits.{bitXor, xor-zero-r}
 use lib.ListN.{length, getD, take, drop, set, replicate, length-append, length-drop, length-replicate}
 use lib.Seq.{drop-append-le, take-append-le, take-all}
-use Rattle.bits.specs.Xors.{xors}
+use Rattle.bits.specs.Xors.{xors, xors-none}
 use Rattle.mode.specs.Strings.{xorInto, xorAt, block, padded}
-
-pub xors-none : (s : List ℕ) → xors s [] ≡ []
-unfolding xors
-xors-none [] = refl
-xors-none (y ∷ s) = refl
 
 pub xorInto-none : (s : List ℕ) → xorInto [] s ≡ s
 unfolding xorInto

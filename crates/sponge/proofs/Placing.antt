@@ -10,12 +10,11 @@ use lib.Bits.{bitXor}
 use lib.ListN.{length, getD, take, drop, set, replicate, length-append, length-drop, take-append-drop}
 use lib.Seq.{take-nil, drop-drop, length-take-le, paste, paste-suc, take-all}
 use Rattle.bits.specs.Put.{put, putAt}
-use Rattle.bits.specs.Xors.{xors, length-xors}
+use Rattle.bits.specs.Xors.{xors, length-xors, xors-none}
 use Rattle.mode.specs.Strings.{block}
 use Rattle.mode.specs.Params.{Params}
 use Rattle.mode.specs.Paper.{blocks}
 use Rattle.mode.specs.Parts.{first}
-use Rattle.sponge.proofs.Absorbing.{xors-none}
 
 -- ---- a string put in place
 

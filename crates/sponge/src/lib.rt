@@ -5,6 +5,7 @@ mod strings;
 
 use strings::absorb_bit;
 use strings::absorb_padded;
+pub use strings::bit_at;
 use strings::front;
 use strings::put_at;
 use strings::write_block;

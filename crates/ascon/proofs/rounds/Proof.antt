@@ -1,6 +1,5 @@
 -- `ascon::rounds` meets its contract: words are loaded, run, and stored (`bits`, `run-words`).
 -- Assumes nothing.
-use mathlib.Core.Path.{ap, _∙_}
 use Prim.Native.Nat.{_≤_}
 use native.Mathlib.Omega.{arith}
 use lib.ListN.{length}
@@ -8,7 +7,7 @@ use denote.Ref.{now}
 use borrow.Author.Needs.{needs}
 use Rattle.bits.specs.Run.{run-words}
 use Rattle.ascon.specs.Permutation.{bytesOf}
-use Rattle.ascon.specs.Laws.{ascon-keeps, bytesOf-wordsOf}
+use Rattle.ascon.specs.Laws.{ascon-keeps}
 use Rattle.ascon.proofs.rounds.Statement.{statement}
 use Rattle.ascon.proofs.rounds.Tie as tie
 
@@ -22,7 +21,7 @@ returns c =
     let s = now (a .state) in
     let long : 40 ≤ length s = omega arith in
     run-words ascon-keeps (a .from) (a .count) s (bytesOf (loaded .words-of .result)) (bytesOf (ran .run .result)) (stored .put-words .last .0) long
-    (ap bytesOf (loaded .words-of .ensures) ∙ bytesOf-wordsOf s long (record { each = λ i. known .slice-known .given i .fits }))
+    (loaded .words-of .ensures)
     (ran .run .ensures)
     (stored .put-words .ensures)
 

@@ -1,12 +1,10 @@
 -- `keccak::rounds` meets its contract: the lanes of the first 50 bytes are loaded, run and put back.
 -- Assumes nothing.
-use mathlib.Core.Path.{ap, _∙_}
 use denote.Ref.{now}
 use borrow.Author.Needs.{needs}
 use Rattle.bits.specs.Run.{run-words}
 use Rattle.keccak.specs.Laws.{keccak-keeps}
 use Rattle.keccak.specs.Lanes.{bytesOf}
-use Rattle.keccak.proofs.ByteLaws.{bytesOf-lanesOf}
 use Rattle.keccak.proofs.rounds.Statement.{statement}
 use Rattle.keccak.proofs.rounds.Tie as tie
 
@@ -19,8 +17,7 @@ returns c =
     let start = known .before in
     let s = now (start .args .state) in
     run-words keccak-keeps (start .args .from) (start .args .count) s _ _ _ (start .pre .0)
-    (ap bytesOf (loaded .lanes-of .ensures) ∙ bytesOf-lanesOf s (record { each = λ i. known .slice-known .given i .fits }) (start .pre .0))
-    (ran .run .ensures) (put .put-lanes .ensures)
+    (loaded .lanes-of .ensures) (ran .run .ensures) (put .put-lanes .ensures)
 
 pub rounds-spec : {M : Type 1} → statement M
 rounds-spec = tie.close (tie.spec (λ c κs. search needs) (λ c κs. search needs) (λ c κs. search needs) (λ c. search needs) returns)

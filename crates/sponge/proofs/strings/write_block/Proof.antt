@@ -9,8 +9,7 @@ use lib.Bits.{bitXor}
 use lib.ListN.{length, take, drop, set, getD, length-set, drop-of-length-le}
 use lib.Seq.{take-length}
 use borrow.Author.Needs.{needs}
-use Rattle.bits.specs.Xors.{xors}
-use Rattle.sponge.proofs.Absorbing.{xors-none}
+use Rattle.bits.specs.Xors.{xors, xors-none}
 use Rattle.sponge.proofs.Placing.{xors-more}
 use Rattle.sponge.proofs.strings.write_block.Statement.{statement}
 use Rattle.sponge.proofs.strings.write_block.Tie as tie
