@@ -11,12 +11,13 @@ use lib.Bits.{bitXor}
 use lib.ListN.{length, take, drop, length-append, length-drop, take-append-drop}
 use lib.Seq.{take-at, drop-at, length-take-le}
 use Rattle.bits.specs.Number.{value}
+use Rattle.bits.specs.Part.{length-part}
 use Rattle.bits.specs.Put.{putAt}
 use Rattle.bits.specs.Run.{rounds, run, Keeps, length-rounds, run-front}
 use Rattle.bits.specs.Xors.{xors, length-xors, xors-front, xors-none}
-use Rattle.mode.specs.Strings.{xorInto, xorAt, block, xorBit}
+use Rattle.mode.specs.Strings.{xorInto, xorAt, block, bitAt, xorBit}
 use Rattle.mode.specs.StringLaws.{xorInto-front}
-use Rattle.rows.specs.Fed.{fed, nothingIn, writtenBy}
+use Rattle.rows.specs.Fed.{fed, bitIn, blockIn, nothingIn, writtenBy}
 
 -- ---- what enters, on the words' bytes u with t behind them
 
@@ -72,19 +73,41 @@ module _ {n : ℕ} {r : ℕ → List ℕ → List ℕ} (keeps : Keeps n r) (from
       }
 
   -- the words put back
-  pub holds-end : (k : ℕ) (u s : List ℕ) → Holds k u → s ≡ u ++ drop n state → s ≡ fed f g first k state
-  holds-end k u s h e = e ∙ h .is
+  pub holds-end : (k calls : ℕ) (u s : List ℕ) → Holds k u → s ≡ u ++ drop n state → k ≡ calls → s ≡ fed f g first calls state
+  holds-end k calls u s h e all = e ∙ h .is ∙ ap (λ (i : ℕ). fed f g first i state) all
+
+-- one call more, with a bit of y or a block of t
+module _ {n : ℕ} {r : ℕ → List ℕ → List ℕ} (keeps : Keeps n r) (from count first : ℕ) (state : List ℕ) (some : 0 < n) where
+  pub bit-more : (y : List ℕ) (k bit : ℕ) (u v w : List ℕ) → Holds keeps from count (bitIn y) first state k u → bit ≡ value (bitAt y (first + k))
+      → v ≡ xors u (bit * 128 ∷ []) ++ drop 1 u → w ≡ rounds r from count v → Holds keeps from count (bitIn y) first state (k + 1) w
+  bit-more y k bit u v w h e q d =
+      let z = q ∙ ap (λ (i : ℕ). xors u (i * 128 ∷ []) ++ drop 1 u) e in
+      holds-more keeps from count (bitIn y) first state k u v w h
+      (bit-enters (bitAt y (first + k)) u (drop n state) v (omega (arith, h .long)) z)
+      (entered-long 1 n (bit * 128 ∷ []) u v refl some (h .long) q) d
+
+  pub block-more : (b : ℕ) (t : List ℕ) (k : ℕ) (u v w : List ℕ) → Holds keeps from count (blockIn b t) first state k u → b ≤ n
+      → (first + k) * b + b ≤ length t
+      → v ≡ xors u (take b (drop ((first + k) * b) t)) ++ drop b u → w ≡ rounds r from count v → Holds keeps from count (blockIn b t) first state (k + 1) w
+  unfolding block
+  block-more b t k u v w h bn l q d =
+      let x = take b (drop ((first + k) * b) t) in
+      let lx : length x ≡ b = length-part t ((first + k) * b) b l in
+      holds-more keeps from count (blockIn b t) first state k u v w h
+      (block-enters b x u (drop n state) v lx (omega (arith, h .long)) q)
+      (entered-long b n x u v lx bn (h .long) q) d
 
 -- a block written: x is the call's block of the text, u the words' bytes after its rounds
 module _ {n : ℕ} {r : ℕ → List ℕ → List ℕ} (keeps : Keeps n r) (from count first : ℕ) (state : List ℕ) (b : ℕ) (text out : List ℕ) where
   pub writes-more : (k : ℕ) (u o o′ : List ℕ) → Holds keeps from count nothingIn first state (k + 1) u
-      → b ≤ n → length (block b (first + k) text) ≡ b → o ≡ writtenBy (λ s. run n r from count s) b text first k state out
-      → o′ ≡ take ((first + k) * b) o ++ (xors u (block b (first + k) text) ++ drop ((first + k) * b + b) o)
+      → b ≤ n → (first + k) * b + b ≤ length text → o ≡ writtenBy (λ s. run n r from count s) b text first k state out
+      → o′ ≡ take ((first + k) * b) o ++ (xors u (take b (drop ((first + k) * b) text)) ++ drop ((first + k) * b + b) o)
       → o′ ≡ writtenBy (λ s. run n r from count s) b text first (k + 1) state out
-  unfolding writtenBy putAt
-  writes-more k u o o′ h bn l e q =
-      let x = block b (first + k) text in
+  unfolding writtenBy putAt block
+  writes-more k u o o′ h bn lt e q =
+      let x = take b (drop ((first + k) * b) text) in
       let at = (first + k) * b in
+      let l : length x ≡ b = length-part text at b lt in
       let f : List ℕ → List ℕ = λ s. run n r from count s in
       let lx : length (xors u x) ≡ b = length-xors u x ∙ omega (arith, h .long) in
       let same : xors u x ≡ xors (fed f nothingIn first (suc k) state) x =

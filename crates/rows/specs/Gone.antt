@@ -1,29 +1,34 @@
 -- Whole calls of a part in one go, by the part's kind: the bits of a re-keying, the blocks of a string, and the blocks of the text are fed
 -- to the state one after the other.
 -- Assumes nothing.
-use mathlib.Core.Path.{_≡_, refl, sym, ap, ap₂, _∙_}
+use mathlib.Core.Path.{_≡_, refl, sym, ap, ap₂, _∙_, subst}
 use mathlib.Core.Bool.{Bool, true, false}
 use mathlib.Core.List.{List}
 use Prim.Native.Nat.{ℕ, zero, suc, _+_, _-_, _*_, _≤_, _<_}
 use native.Mathlib.Nat.{le-trans, mul-le-mul-right, suc-mul}
 use native.Mathlib.Omega.{arith}
 use lib.Dec.{eqb}
+use borrow.Author.Tests.{eqb-true, ne-eqb}
 use lib.ListN.{length, take, drop}
 use Rattle.bits.specs.Pick.{pick}
 use Rattle.bits.specs.Run.{turns, run}
 use Rattle.stopping.specs.Stopped.{whole}
 use Rattle.stopping.specs.Parts.{Part, callOf}
-use Rattle.stopping.specs.Places.{partAt}
+use Rattle.stopping.specs.Places.{partAt, shapeAt}
 use Rattle.stopping.specs.Wholes.{wholes}
 use Rattle.mode.specs.Strings.{xorInto, xorAt, block, padded}
 use Rattle.mode.specs.StringLaws.{block-full}
 use Rattle.mode.specs.Params.{Params}
 use Rattle.mode.specs.Parts.{Machine, Input, onState, first, cipherOf, part, written, keyBits, texts, assocs, ciphers, macKeyBits}
 use Rattle.mode.specs.Calls.{turns-run}
-use Rattle.mode.specs.Instances.{paramsOf}
+use Rattle.mode.specs.Instances.{paramsOf, lawful-instance}
+use Rattle.mode.specs.Counts.{encShapes, macShapes}
 use Rattle.plan.specs.Planned.{shapeOf}
+use Rattle.plan.specs.Kinds.{text-calls}
 use Rattle.sponge.specs.Kinds.{given, machine, partOf}
 use Rattle.sponge.specs.Leaves.{turn-of}
+use Rattle.sponge.specs.Entering.{unless-most}
+use Rattle.sponge.specs.Offsets.{pad-offset, text-offset}
 use Rattle.rows.specs.Fed.{fed, bitIn, blockIn, nothingIn, writtenBy}
 
 -- the kinds of part that have many calls: 1 and 8 the bits of a re-keying, 3 the text, 5 and 6 associated data and ciphertext
@@ -141,3 +146,41 @@ module _ (instance call calls : ℕ) (sealing : Bool) (nonce assoc text state se
       written-wholes p (given sealing key nonce assoc text) 3 (omega arith) session tag call calls
       (λ i m a. ap (λ (u : List ℕ). record { state = u; session = m .session; out = m .out; tag = m .tag }) (after-first i _ (m .state) (omega arith)))
       (λ i m. refl) state out
+
+  -- a kind's calls, found by its number
+  pub gone-as : {kind k : ℕ} {s s′ o o′ : List ℕ} → kind ≡ k → s′ ≡ s → o′ ≡ o → To k s o → To kind s′ o′
+  gone-as {kind} {k} {s} {s′} {o} {o′} e f g h =
+      subst (λ (j : ℕ). To j s′ o′) (sym e) (subst (λ (u : List ℕ). To k u o′) (sym f) (subst (λ (u : List ℕ). To k s u) (sym g) h))
+
+-- ---- the room that the calls have
+
+module _ {instance kind call calls : ℕ} {assoc text out : List ℕ} (can : CanGo instance kind call calls assoc text out) where
+  below : (k : ℕ) → kind ≡ k → call + calls < shapeOf (paramsOf instance) (length assoc) (length text) k .count
+  below k e = subst (λ (j : ℕ). call + calls < shapeOf (paramsOf instance) (length assoc) (length text) j .count) e (can .notLast)
+
+  pub nonce-room : kind ≡ 1 → call + calls ≤ 128
+  unfolding shapeOf shapeAt encShapes macShapes
+  nonce-room e = omega (arith, below 1 e, unless-most (length text) 127)
+
+  pub session-room : kind ≡ 8 → call + calls ≤ 128
+  unfolding shapeOf shapeAt encShapes macShapes
+  session-room e = omega (arith, below 8 e)
+
+  pub assoc-room : kind ≡ 5 → (call + calls) * paramsOf instance .b ≤ length assoc
+  unfolding shapeOf shapeAt encShapes macShapes
+  assoc-room e = pad-offset (call + calls) (length assoc) (paramsOf instance .b) (below 5 e)
+
+  pub cipher-room : kind ≡ 6 → (call + calls) * paramsOf instance .b ≤ length text
+  unfolding shapeOf shapeAt encShapes macShapes
+  cipher-room e = pad-offset (call + calls) (length text) (paramsOf instance .b) (below 6 e)
+
+  pub text-room : kind ≡ 3 → (call + calls) * paramsOf instance .b ≤ length text
+  text-room e =
+      text-offset (paramsOf instance) (call + calls) (length text) (lawful-instance instance .block)
+      (text-calls (paramsOf instance) (length assoc) (length text) (call + calls) (below 3 e))
+
+  -- the kind that is left
+  pub text-else : (kind ≡ 1 → ⊥) → (kind ≡ 8 → ⊥) → (kind ≡ 5 → ⊥) → (kind ≡ 6 → ⊥) → kind ≡ 3
+  unfolding many
+  text-else a b c d =
+      eqb-true kind 3 (simp (ne-eqb kind 1 a, ne-eqb kind 8 b, ne-eqb kind 5 c, ne-eqb kind 6 d) at (can .isMany))

@@ -79,7 +79,7 @@ module _ (instance kind call : ℕ) (x : Input) (s ss o : List ℕ) where
 
 -- ---- what a call's number is below
 
-unless-most : (m k : ℕ) → unlessEmpty m k ≤ k
+pub unless-most : (m k : ℕ) → unlessEmpty m k ≤ k
 unfolding unlessEmpty
 unless-most zero k = omega arith
 unless-most (suc m) k = omega arith

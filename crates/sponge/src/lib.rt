@@ -26,6 +26,7 @@ ghost use Rattle.mode.specs.Parts.{first};
 ghost use Rattle.mode.specs.Instances.{paramsOf};
 ghost use Rattle.sponge.specs.Kinds.{given, CanEnter, Entered};
 ghost use Rattle.sponge.specs.Leaves.{CanLeave};
+ghost use Rattle.sponge.specs.Engines.{onAscon};
 ghost use Rattle.sponge.specs.Entering.{encryptionState, macKeyState, macState, sessionBytes};
 
 // The state and the session bytes.
@@ -56,15 +57,22 @@ fn keccak_rounds(state: [u8; 50], from: u32, count: u32) -> [u8; 50]
     s
 }
 
+// Whether an instance's permutation is Ascon-p.
+pub fn on_ascon(instance: u32) -> bool
+    ensures { λ r. ⌜ r ≡ onAscon instance ⌝ }
+{
+    if instance == 1 {
+        return true;
+    }
+    instance == 2
+}
+
 // The rounds of the indices from `from` on, `count` of them, on the instance's part of the state.
 pub fn permute(instance: u32, state: [u8; 50], from: u32, count: u32) -> [u8; 50]
     requires { ⌜ from + count ≤ paramsOf instance .most ⌝ }
     ensures { λ r. ⌜ r ≡ run (paramsOf instance .n) (paramsOf instance .round) from count state ⌝ }
 {
-    if instance == 1 {
-        return ascon_rounds(state, from, count);
-    }
-    if instance == 2 {
+    if on_ascon(instance) {
         return ascon_rounds(state, from, count);
     }
     keccak_rounds(state, from, count)
