@@ -3,3 +3,4 @@ mod Turning
 mod Slicing
 mod Beginning
 mod Wholes
+mod Going

@@ -7,5 +7,6 @@ pub mod Fits
 pub mod Runs
 pub mod Turns
 pub mod Sofar
+pub mod Rows
 pub mod Budgets
 pub mod Promises

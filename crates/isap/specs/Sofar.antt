@@ -34,6 +34,28 @@ pub record Fresh (j : Job) (assoc text out : List ℕ) : Type 0 where
   pub assocLimit : j .assoc ≤ 256
   pub textLimit : j .text ≤ 4096
 
+-- it stands in a call, and is ready for some rounds of it
+module _ {j : Job} {assoc text out : List ℕ} (h : Fresh j assoc text out) where
+  pub fresh-at : At j (j .place)
+  fresh-at = subst (At j) (sym (h .placeIs)) (at-of j (h .inside))
+
+  pub fresh-ready : (count : ℕ) → 0 < count
+      → j .place .round + count ≤ shapeOf (paramsOf (j .instance)) (j .assoc) (j .text) (kindOf (sealingOf (j .direction)) (j .place .part)) .rounds
+      → Ready j assoc text out count
+  fresh-ready count k f =
+      record {
+        unended = h .unended;
+        placeIs = h .placeIs;
+        inside = h .inside;
+        assocLong = h .assocLong;
+        textLong = h .textLong;
+        outLong = h .outLong;
+        assocLimit = h .assocLimit;
+        textLimit = h .textLimit;
+        someRounds = k;
+        fits = f;
+      }
+
 pub record Sofar (j : Job) (assoc text out₀ : List ℕ) (budget left : ℕ) (r : Job) (out : List ℕ) : Type 0 where
   pub fresh : Fresh j assoc text out₀
   pub leftIs : left ≤ budget
@@ -93,24 +115,16 @@ module _ (j : Job) (assoc text out₀ : List ℕ) (budget : ℕ) where
             session = j .session;
           }
 
-  -- an unended job stands in a call, and is ready for some rounds of it
+  -- an unended job goes on
   module _ (left : ℕ) (r : Job) (out : List ℕ) (h : Sofar j assoc text out₀ budget left r out) (e : r .ending ≡ 0) where
     unended-now : ran j assoc text out₀ (budget - left) .ending ≡ 0
     unended-now = sym (ap (λ (y : Job). y .ending) (h .jobIs)) ∙ e
 
-    pub sofar-place : At r (r .place)
-    unfolding totalOf shapesOf
-    sofar-place =
-        subst (λ (y : Job). At y (y .place)) (sym (h .jobIs)) (at-of (after j (ran j assoc text out₀ (budget - left))) (h .good unended-now))
-
-    pub sofar-ready : (count : ℕ) → 0 < count
-        → r .place .round + count ≤ shapeOf (paramsOf (r .instance)) (r .assoc) (r .text) (kindOf (sealingOf (r .direction)) (r .place .part)) .rounds
-        → Ready r assoc text out count
+    pub sofar-fresh : Fresh r assoc text out
     unfolding shapesOf totalOf
-    sofar-ready count k f =
-        subst (λ (y : Job). y .place .round + count ≤ shapeOf (paramsOf (y .instance)) (y .assoc) (y .text) (kindOf (sealingOf (y .direction)) (y .place .part)) .rounds → Ready y assoc text out count)
-        (sym (h .jobIs))
-        (λ g. record {
+    sofar-fresh =
+        subst (λ (y : Job). Fresh y assoc text out) (sym (h .jobIs))
+        (record {
           unended = unended-now;
           placeIs = refl;
           inside = h .good unended-now;
@@ -119,10 +133,7 @@ module _ (j : Job) (assoc text out₀ : List ℕ) (budget : ℕ) where
           outLong = h .outLong;
           assocLimit = h .fresh .assocLimit;
           textLimit = h .fresh .textLimit;
-          someRounds = k;
-          fits = g;
         })
-        f
 
   -- after a turn
   pub sofar-more : (left : ℕ) (r : Job) (out : List ℕ) (count : ℕ) (r′ : Job) (out′ : List ℕ) → Sofar j assoc text out₀ budget left r out → count ≤ left

@@ -183,7 +183,7 @@ module _ (j : Job) (assoc text out : List ℕ) (count : ℕ) (h : Ready j assoc 
   x : Input
   x = inputOf j assoc text
 
-  c : Course Machine
+  abbrev c : Course Machine
   c = courseOf j assoc text
 
   kind : ℕ
@@ -192,15 +192,19 @@ module _ (j : Job) (assoc text out : List ℕ) (count : ℕ) (h : Ready j assoc 
   w : Place
   w = placeOf (shapesOf j) (j .done)
 
-  lawful-c : Lawful c
-  unfolding c courseOf
+  pub lawful-c : Lawful c
+  unfolding courseOf
   lawful-c = lawful (paramsOf (j .instance)) (lawful-instance (j .instance)) (inputOf j assoc text)
 
+  pub stands-at : (d : ℕ) → standsAt c d ≡ placeOf (shapesOf j) d
+  unfolding courseOf shapesOf standsAt
+  stands-at d =
+      ap (λ hs. placeOf hs d) (shapes-all (paramsOf (j .instance)) (inputOf j assoc text))
+      ∙ ap₂ (λ (a m : ℕ). placeOf (allShapes (paramsOf (j .instance)) (sealingOf (j .direction)) a m) d) (h .assocLong) (h .textLong)
+
   stands-is : standsAt c (j .done) ≡ w
-  unfolding c courseOf w shapesOf standsAt
-  stands-is =
-      ap (λ hs. placeOf hs (j .done)) (shapes-all (paramsOf (j .instance)) (inputOf j assoc text))
-      ∙ ap₂ (λ (a m : ℕ). placeOf (allShapes (paramsOf (j .instance)) (sealingOf (j .direction)) a m) (j .done)) (h .assocLong) (h .textLong)
+  unfolding w
+  stands-is = stands-at (j .done)
 
   place-is : j .place ≡ placed w
   unfolding w
@@ -211,7 +215,7 @@ module _ (j : Job) (assoc text out : List ℕ) (count : ℕ) (h : Ready j assoc 
   at = subst (At j) (sym (h .placeIs)) (at-of j (h .inside))
 
   call-is : callAt (parts c) w ≡ callOf (partOf p x kind) (j .place .call)
-  unfolding c courseOf p x kind callAt w
+  unfolding courseOf p x kind callAt w
   call-is =
       let e = place-is in
       let same : w .part ≡ j .place .part = sym (ap planned.Place.part e) in
@@ -219,21 +223,24 @@ module _ (j : Job) (assoc text out : List ℕ) (count : ℕ) (h : Ready j assoc 
       ∙ ap (λ q. callOf q (j .place .call)) (part-is (paramsOf (j .instance)) (inputOf j assoc text) (j .place .part) (at .isPart))
 
   front-is : frontRounds c ≡ frontCount p (sealingOf (j .direction)) (j .assoc) (j .text)
-  unfolding c courseOf p
+  unfolding courseOf p
   front-is =
       front-rounds (paramsOf (j .instance)) (inputOf j assoc text)
       ∙ ap₂ (frontCount (paramsOf (j .instance)) (sealingOf (j .direction))) (h .assocLong) (h .textLong)
 
   back-is : backRounds c ≡ backCount p (sealingOf (j .direction)) (j .text)
-  unfolding c courseOf p
+  unfolding courseOf p
   back-is = back-rounds (paramsOf (j .instance)) (inputOf j assoc text) ∙ ap (backCount (paramsOf (j .instance)) (sealingOf (j .direction))) (h .textLong)
 
-  more : j .done < frontRounds c + backRounds c
+  pub all-rounds : frontRounds c + backRounds c ≡ totalOf j
   unfolding p totalOf
-  more = omega (arith, h .inside, front-is, back-is, all-count (paramsOf (j .instance)) (sealingOf (j .direction)) (j .assoc) (j .text))
+  all-rounds = omega (arith, front-is, back-is, all-count (paramsOf (j .instance)) (sealingOf (j .direction)) (j .assoc) (j .text))
+
+  pub more : j .done < frontRounds c + backRounds c
+  more = omega (arith, h .inside, all-rounds)
 
   ending-is : (d : ℕ) (m : Machine) → coreAt c d m .ending ≡ endsWith j d (m .state) (m .tag)
-  unfolding endsWith p c courseOf
+  unfolding endsWith p courseOf
   ending-is d m =
       (λ i. endingOf (front-is i) (back-is i) d (accepts-is (paramsOf (j .instance)) (inputOf j assoc text) m i))
 
@@ -260,7 +267,7 @@ module _ (j : Job) (assoc text out : List ℕ) (count : ℕ) (h : Ready j assoc 
       ≡ machine s ss out (j .tag)
       → (m : Machine) → m ≡ turnedTo (paramsOf (j .instance)) (inputOf j assoc text) (kindOf (sealingOf (j .direction)) (j .place .part)) (j .place .call) (j .place .round) count s ss out (j .tag)
       → ran j assoc text out count ≡ record { machine = m; done = j .done + count; ending = endsWith j (j .done + count) (m .state) (m .tag) }
-  unfolding ran p x kind c
+  unfolding ran p x kind
   turn-steps s ss e m q =
       let k : ℕ = count - 1 in
       let n : suc k ≡ count = omega (arith, h .someRounds) in

@@ -1,6 +1,7 @@
 // ISAP for a station: jobs begun and sliced by budgets of permutation rounds, and whole calls.
 mod beginnings;
 mod exports;
+mod further;
 mod slices;
 mod standing;
 mod turns;

@@ -1,14 +1,13 @@
 // A slice: a record, what belongs to it, and a budget of rounds.
 ghost use mathlib.Core.Path.{_≡_};
-ghost use Prim.Native.Nat.{_+_, _≤_, _<_};
+ghost use Prim.Native.Nat.{_+_, _≤_};
 ghost use Rattle.mode.specs.Instances.{paramsOf};
 ghost use Rattle.mode.specs.Counts.{frontCount, backCount};
-ghost use Rattle.isap.specs.Turns.{At, Rest};
 ghost use Rattle.isap.specs.Slices.{numberOf, refusalOf, sliceOf, outOf};
 use crate::Job;
 use crate::Sliced;
+use crate::further::further;
 use crate::standing::stands;
-use crate::turns::turn;
 
 // The rounds up to the decision, and after it.
 fn front_rounds(instance: u32, sealing: bool, a: u32, m: u32) -> u32
@@ -30,18 +29,6 @@ fn back_rounds(instance: u32, sealing: bool, m: u32) -> u32
         return 0;
     }
     plan::encrypt_rounds(instance, m)
-}
-
-// The rounds that can be done in one go: what is left of the call, or of the budget.
-fn rounds_now(job: Job, left: u32) -> u32
-    requires { ⌜ (At job (job .place)) × (0 < left) ⌝ }
-    ensures { λ r. ⌜ (r ≤ left) × (0 < r) × (Rest job r) ⌝ }
-{
-    let at = job.place;
-    let sealing = job.direction == 1;
-    let kind = plan::kind_of(sealing, at.part);
-    let rest = plan::rounds_of(job.instance, kind) - at.round;
-    if left < rest { left } else { rest }
 }
 
 // Document 01's number of an ending.
@@ -100,9 +87,9 @@ pub fn slice(job: Job, assoc: &[u8], text: &[u8], out: &mut [u8], budget: u32) -
         if current.ending != 0 {
             break;
         }
-        let count = rounds_now(current, left);
-        current = turn(current, assoc, text, out, count, front, back);
-        left -= count;
+        let next = further(current, assoc, text, out, left, front, back);
+        left -= next.done - current.done;
+        current = next;
     }
     Sliced {
         number: number_of(current.ending),

@@ -89,6 +89,9 @@ module _ {M : Type 0} (c : Course M) (l : Lawful c) (j : Core M) (going : j .end
       let sum : j .done + rounds (suc k) ≡ n + q .shape .rounds = omega (arith, one-more k) in
       ap (placeOf hs) sum ∙ m .1 all .0 next ∙ ap (λ (i : ℕ). place part i 0) (omega arith)
 
+  pub row-within : (k : ℕ) → call + k < q .shape .count → j .done + rounds k < frontRounds c + backRounds c
+  row-within k h = still k (row-place k h)
+
   gone : ℕ → Core M
   gone k = record { machine = wholes q call k (j .machine); done = j .done + rounds k; ending = 0 }
 

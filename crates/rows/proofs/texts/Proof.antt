@@ -16,8 +16,7 @@ texts-requires c κs =
     let i = c .before in
     let q = i .before .before .before .numbers-of .ensures in
     let a = i .before .before .before .before .before .before in
-    let e = runs-ascon (a .args .instance) (sym (i .before .on-ascon .ensures) ∙ i .if1 .taken) in
-    (
+    let e = runs-ascon (a .args .instance) (sym (i .before .on-ascon .ensures) ∙ i .if1 .taken) in (
       subst (λ (b : ℕ). (a .args .first + a .args .calls) * b ≤ length (a .args .text .now)) (e .block) (a .pre .0),
       a .pre .1,
       a .pre .2,
@@ -41,8 +40,7 @@ texts-requires-2 c κs =
     let i = c .before in
     let q = i .before .before .before .numbers-of .ensures in
     let a = i .before .before .before .before .before .before in
-    let e = runs-keccak (a .args .instance) (sym (i .before .on-ascon .ensures) ∙ i .if1 .left) in
-    (
+    let e = runs-keccak (a .args .instance) (sym (i .before .on-ascon .ensures) ∙ i .if1 .left) in (
       subst (λ (b : ℕ). (a .args .first + a .args .calls) * b ≤ length (a .args .text .now)) (e .block) (a .pre .0),
       a .pre .1,
       a .pre .2,

@@ -1,10 +1,12 @@
 -- `isap::slices::slice` meets its contract: the refusal first, then the loop, whose invariant is `Sofar`.
 -- Assumes nothing.
-use mathlib.Core.Path.{_≡_, sym, _∙_}
+use mathlib.Core.Path.{_≡_, sym, _∙_, subst}
 use mathlib.Core.Logic.{_⊎_, inl, inr, ⊎-elim}
+use Prim.Native.Nat.{ℕ, _-_}
 use native.Mathlib.Omega.{arith}
 use borrow.Author.Needs.{needs}
-use Rattle.isap.specs.Sofar.{Sofar, sofar-start, sofar-place, sofar-ready, sofar-more}
+use Rattle.isap.specs.Sofar.{Sofar, sofar-start, sofar-fresh, sofar-more}
+use Rattle.isap.specs.Rows.{rounds-on}
 use Rattle.isap.proofs.Slicing.{unrefused, refuses, finishes, timed-now}
 use Rattle.isap.proofs.slices.slice.Statement.{statement}
 use Rattle.isap.proofs.slices.slice.Tie as tie
@@ -44,38 +46,37 @@ loop-holds c =
     sofar-start (a .job) (a .assoc .now) (a .text .now) (a .out .now) (a .budget)
     (unrefused (a .job) (a .assoc .now) (a .text .now) (a .out .now) (sym (r .refusal .ensures) ∙ i .if1 .left))
 
-rounds-now-requires : tie.Need-rounds-now-requires Inv-loop μ-loop
-rounds-now-requires c κs =
-    let t = c .before .before in
-    let l = t .before in
-    let a = l .before .before .before .before .before .before .before .before .before .before .args in (
-      sofar-place (a .job) (a .assoc .now) (a .text .now) (a .out .now) (a .budget) (l .loop .left) (l .loop .current) (l .loop .out) (l .loop .inv) (c .if2 .left),
-      t .loop-test .taken,
-    )
-
-turn-requires : tie.Need-turn-requires Inv-loop μ-loop
-turn-requires c κs =
-    let n = c .before in
-    let i = n .before in
-    let l = i .before .before .before in
+further-requires : tie.Need-further-requires Inv-loop μ-loop
+further-requires c κs =
+    let i = c .before in
+    let l = c .before .before .before .before in
     let b = l .before in
     let f = b .before in
-    let a = f .before .before .before .before .before .before .before .before .args in
-    let e = n .rounds-now .ensures in (
-      sofar-ready (a .job) (a .assoc .now) (a .text .now) (a .out .now) (a .budget) (l .loop .left) (l .loop .current) (l .loop .out) (l .loop .inv) (i .if2 .left)
-          (n .rounds-now .result) (e .1) (e .2 .fits),
+    let a = c .before .before .before .before .before .before .before .before .before .before .before .before .before .before .args in (
+      sofar-fresh (a .job) (a .assoc .now) (a .text .now) (a .out .now) (a .budget) (l .loop .left) (l .loop .current) (l .loop .out) (l .loop .inv) (i .if2 .left),
       timed-now (a .job) (a .assoc .now) (a .text .now) (a .out .now) (a .budget) (l .loop .left) (l .loop .current) (l .loop .out) _ _ (l .loop .inv)
           (record { frontIs = f .front-rounds .ensures; backIs = b .back-rounds .ensures }),
+      i .before .before .loop-test .taken,
     )
+
+sub-done : tie.Need-sub-left Inv-loop μ-loop
+sub-done c = omega (arith, rounds-on (c .before .before .before .before .further .ensures .turned))
+
+sub-left : tie.Need-sub-left-2 Inv-loop μ-loop
+sub-left c = let f = c .before .before .before .before .further .ensures in omega (arith, rounds-on (f .turned), f .fits)
+
+loop-less : tie.Need-loop-less Inv-loop μ-loop
+loop-less c = let f = c .before .before .before .before .further .ensures in omega (arith, rounds-on (f .turned), f .fits, f .some)
 
 loop-again : tie.Need-loop-again Inv-loop μ-loop
 loop-again c =
-    let t = c .before .before in
-    let n = t .before .before in
-    let l = n .before .before .before .before in
-    let a = l .before .before .before .before .before .before .before .before .before .before .args in
-    sofar-more (a .job) (a .assoc .now) (a .text .now) (a .out .now) (a .budget) (l .loop .left) (l .loop .current) (l .loop .out)
-    (n .rounds-now .result) (t .turn .result) (t .turn .last .1 .1 .1 .0) (l .loop .inv) (n .rounds-now .ensures .0) (t .turn .ensures)
+    let g = c .before .before .before .before .further in
+    let f = g .ensures in
+    let l = c .before .before .before .before .before .before .before .before .before in
+    let a = c .before .before .before .before .before .before .before .before .before .before .before .before .before .before .before .before .before .before .before .args in
+    let n : g .result .done - l .loop .current .done ≡ f .count = omega (arith, rounds-on (f .turned)) in
+    subst (λ (k : ℕ). Sofar (a .job) (a .assoc .now) (a .text .now) (a .out .now) (a .budget) (l .loop .left - k) (g .result) (g .last .1 .1 .1 .0)) (sym n)
+    (sofar-more (a .job) (a .assoc .now) (a .text .now) (a .out .now) (a .budget) (l .loop .left) (l .loop .current) (l .loop .out) (f .count) (g .result) (g .last .1 .1 .1 .0) (l .loop .inv) (f .fits) (f .turned))
 
 returns-2 : tie.Need-returns-2 Inv-loop μ-loop
 returns-2 c =
@@ -100,10 +101,10 @@ slice-spec =
     front-rounds-requires
     back-rounds-requires
     loop-holds
-    rounds-now-requires
-    turn-requires
-    (λ c. c .before .before .before .before .rounds-now .ensures .0)
-    (λ c. omega (arith, c .before .before .before .before .rounds-now .ensures))
+    further-requires
+    sub-done
+    sub-left
+    loop-less
     loop-again
     (λ c κs. search needs)
     (λ c. c .before .before .loop .inv .leftIs)

@@ -1,4 +1,4 @@
--- `isap::slices::rounds_now` meets its contract: the rest of the call is as its kind's rounds say.
+-- `isap::further::rounds_now` meets its contract: the rest of the call is as its kind's rounds say.
 -- Assumes nothing.
 use mathlib.Core.Path.{_≡_, ap, _∙_}
 use Prim.Native.Nat.{ℕ}
@@ -8,8 +8,8 @@ use Rattle.mode.specs.Instances.{paramsOf}
 use Rattle.plan.specs.Planned.{kindOf, shapeOf}
 use Rattle.isap.specs.declared.Job.{Job}
 use Rattle.isap.specs.Records.{sealingOf}
-use Rattle.isap.proofs.slices.rounds_now.Statement.{statement}
-use Rattle.isap.proofs.slices.rounds_now.Tie as tie
+use Rattle.isap.proofs.further.rounds_now.Statement.{statement}
+use Rattle.isap.proofs.further.rounds_now.Tie as tie
 
 rounds-is : (j : Job) (kind r : ℕ) → kind ≡ kindOf (sealingOf (j .direction)) (j .place .part) → ((a m : ℕ) → r ≡ shapeOf (paramsOf (j .instance)) a m kind .rounds)
     → r ≡ shapeOf (paramsOf (j .instance)) (j .assoc) (j .text) (kindOf (sealingOf (j .direction)) (j .place .part)) .rounds

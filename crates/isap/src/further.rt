@@ -1,0 +1,113 @@
+// How far a job can go in one go: some whole calls of a part that has many, or some rounds of one call.
+ghost use mathlib.Core.Path.{_≡_};
+ghost use Prim.Native.Nat.{_*_, _≤_, _<_};
+ghost use Rattle.isap.specs.Turns.{At, Rest};
+ghost use Rattle.isap.specs.Sofar.{Fresh, Timed, Turned};
+ghost use Rattle.isap.specs.Rows.{roundsAt, Row, Rows, Further};
+use crate::Job;
+use crate::turns::turn;
+use plan::Place;
+
+// The whole calls that the budget allows, up to the last of the part, or 0 where a single call is next.
+fn row_calls(job: Job, left: u32) -> u32
+    requires { ⌜ (At job (job .place)) × (job .assoc ≤ 256) × (job .text ≤ 4096) ⌝ }
+    ensures { λ r. ⌜ Rows job left r ⌝ }
+{
+    let at = job.place;
+    if at.round != 0 {
+        return 0;
+    }
+    if at.call == 0 {
+        return 0;
+    }
+    let sealing = job.direction == 1;
+    let kind = plan::kind_of(sealing, at.part);
+    if !rows::has_many(kind) {
+        return 0;
+    }
+    let last = plan::count_of(job.instance, job.assoc, job.text, kind) - 1;
+    let calls = last - at.call;
+    let fit = left / plan::rounds_of(job.instance, kind);
+    if fit < calls { fit } else { calls }
+}
+
+// The record after these calls.
+fn row(job: Job, assoc: &[u8], text: &[u8], out: &mut [u8], calls: u32) -> Job
+    requires { ⌜ (Fresh job (now assoc) (now text) (now out)) × (Row job calls) ⌝ }
+    ensures { λ r. ⌜ Turned job (now (assoc .entry)) (now (text .entry)) (now (out .entry)) (calls * roundsAt job) r (now (out .exit)) ⌝ }
+{
+    let sealing = job.direction == 1;
+    let at = job.place;
+    let kind = plan::kind_of(sealing, at.part);
+    let nonce = job.nonce;
+    let met = job.state;
+    let session = job.session;
+    let state = rows::go(
+        job.instance,
+        sealing,
+        kind,
+        at.call,
+        calls,
+        nonce,
+        met,
+        session,
+        assoc,
+        text,
+        out,
+    );
+    let done = job.done + calls * plan::rounds_of(job.instance, kind);
+    let place = Place {
+        part: at.part,
+        call: at.call + calls,
+        round: 0,
+    };
+    let key = job.key;
+    let tag = job.tag;
+    Job {
+        instance: job.instance,
+        direction: job.direction,
+        assoc: job.assoc,
+        text: job.text,
+        key,
+        nonce,
+        tag,
+        done,
+        place,
+        ending: job.ending,
+        state,
+        session,
+    }
+}
+
+// The rounds that can be done in one go: what is left of the call, or of the budget.
+fn rounds_now(job: Job, left: u32) -> u32
+    requires { ⌜ (At job (job .place)) × (0 < left) ⌝ }
+    ensures { λ r. ⌜ (r ≤ left) × (0 < r) × (Rest job r) ⌝ }
+{
+    let at = job.place;
+    let sealing = job.direction == 1;
+    let kind = plan::kind_of(sealing, at.part);
+    let rest = plan::rounds_of(job.instance, kind) - at.round;
+    if left < rest { left } else { rest }
+}
+
+// The record after as many rounds as go in one go, within the budget that is left.
+pub fn further(
+    job: Job,
+    assoc: &[u8],
+    text: &[u8],
+    out: &mut [u8],
+    left: u32,
+    front: u32,
+    back: u32,
+) -> Job
+    requires { ⌜ (Fresh job (now assoc) (now text) (now out)) × (Timed job front back) × (0 < left) ⌝ }
+    ensures { λ r. ⌜ Further job (now (assoc .entry)) (now (text .entry)) (now (out .entry)) left r (now (out .exit)) ⌝ }
+{
+    let calls = row_calls(job, left);
+    if 0 < calls {
+        return row(job, assoc, text, out, calls);
+    }
+    let count = rounds_now(job, left);
+    turn(job, assoc, text, out, count, front, back)
+}
