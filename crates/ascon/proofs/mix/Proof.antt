@@ -15,8 +15,8 @@ returns c =
     let start = inner .before in
     let x = start .args .x in
     let a = start .args .a in
-    let b = start .args .b in
-    ap (bitXor x) (c .turned2 .ensures ∙ ap (λ (y : ℕ). rotr 64 a (bitXor x y)) (inner .turned .ensures)) ∙ nested (start .fits .x .fits) a b (start .pre .1)
+    ap (bitXor x) (c .turned2 .ensures ∙ ap (λ (y : ℕ). rotr 64 a (bitXor x y)) (inner .turned .ensures))
+    ∙ nested (start .fits .x .fits) a (start .args .b) (start .pre .1)
 
 pub mix-spec : {M : Type 1} → statement M
 mix-spec =
