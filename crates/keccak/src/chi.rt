@@ -4,7 +4,7 @@ ghost use Rattle.keccak.specs.Agree.{Agree};
 ghost use Rattle.keccak.specs.Fips202.{χ};
 ghost use Rattle.keccak.specs.Lanes.{arrayOf, five, chiLane};
 
-// One plane, with three inversions for five: `b ^ (!c & d)` is `!b ^ (c | !d)`. Of the orders tried, this needs the fewest copies.
+// One plane, with three inversions for five: `b ^ (!c & d)` is `!b ^ (c | !d)`. The order of the five spares copies of lanes.
 fn mixed(p: [u16; 5]) -> [u16; 5]
     ensures { λ r. ⌜ r ≡ five (chiLane p) ⌝ }
 {

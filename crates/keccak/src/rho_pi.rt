@@ -29,7 +29,7 @@ fn turned(p: [u16; 5], a: u16, b: u16, c: u16, d: u16, e: u16) -> [u16; 5]
     ]
 }
 
-// The planes from the last to the first: of the orders tried, this needs the fewest copies of lanes.
+// The planes from the last to the first, which spares copies of lanes.
 pub fn rho_pi(a: [[u16; 5]; 5]) -> [[u16; 5]; 5]
     ensures { λ r. ⌜ Agree (arrayOf r) (π (ρ (arrayOf a))) ⌝ }
 {
