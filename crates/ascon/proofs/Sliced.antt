@@ -3,12 +3,12 @@
 -- at all 32 columns.
 -- Assumes nothing.
 use mathlib.Core.Path.{_≡_, refl, _∙_}
-use mathlib.Core.Bool.{Bool, true, not, _&&_}
+use mathlib.Core.Bool.{Bool, true, not, _&&_, _||_}
 use Prim.Native.Nat.{ℕ, _-_, _^_}
-use lib.Bits.{bitAnd, bitXor}
+use lib.Bits.{bitAnd, bitOr, bitXor}
 use Rattle.bits.specs.Digit.{odd, bit, _⊕_}
 use Rattle.bits.specs.Number.{number-cong}
-use Rattle.bits.specs.Word.{Digits, own, digits-is, xor-digits, and-digits, not-digits}
+use Rattle.bits.specs.Word.{Digits, own, digits-is, xor-digits, and-digits, or-digits, not-digits}
 use Rattle.bits.specs.Every.{both, same5, same5-at}
 use Rattle.ascon.specs.declared.Words.{Words}
 use Rattle.ascon.specs.Permutation.{sboxTable, sbox, five, column, substituted, pS}
@@ -16,46 +16,34 @@ use Rattle.ascon.specs.Laws.{Fit}
 
 -- ---- the formula
 
-module _ {A : Type 0} (xor and : A → A → A) (inv : A → A) where
-  -- `a ^ (!b & c)`
-  abbrev step : A → A → A → A
-  step a b c = xor a (and (inv b) c)
+module _ {A : Type 0} (xor and or : A → A → A) (inv : A → A) (x0 x1 x2 x3 x4 : A) where
+  abbrev sum0 : A
+  sum0 = xor x0 x4
 
-  module _ (x0 x1 x2 x3 x4 : A) where
-    abbrev mid0 : A
-    mid0 = step (xor x0 x4) x1 (xor x2 x1)
+  abbrev sum2 : A
+  sum2 = xor x1 x2
 
-    abbrev mid1 : A
-    mid1 = step x1 (xor x2 x1) x3
+  abbrev sum4 : A
+  sum4 = xor x3 x4
 
-    abbrev mid2 : A
-    mid2 = step (xor x2 x1) x3 (xor x4 x3)
+  abbrev out0 : A
+  out0 = xor (or x1 (xor sum0 x2)) sum4
 
-    abbrev mid3 : A
-    mid3 = step x3 (xor x4 x3) (xor x0 x4)
+  abbrev out1 : A
+  out1 = xor (xor (or x3 sum2) (and x1 x2)) sum0
 
-    abbrev mid4 : A
-    mid4 = step (xor x4 x3) (xor x0 x4) x1
+  abbrev out2 : A
+  out2 = xor (or x3 (inv x4)) sum2
 
-    abbrev out0 : A
-    out0 = xor mid0 mid4
+  abbrev out3 : A
+  out3 = xor (or x0 sum4) sum2
 
-    abbrev out1 : A
-    out1 = xor mid1 mid0
-
-    abbrev out2 : A
-    out2 = inv mid2
-
-    abbrev out3 : A
-    out3 = xor mid3 mid2
+  abbrev out4 : A
+  out4 = xor (and x1 (inv sum0)) sum4
 
 -- on words of 64 digits
 abbrev inverted : ℕ → ℕ
 inverted a = 2 ^ 64 - 1 - a
-
-step-digits : {a b c : ℕ} {f g h : ℕ → Bool} → Digits 64 a f → Digits 64 b g → Digits 64 c h
-    → Digits 64 (step bitXor bitAnd inverted a b c) (λ k. step _⊕_ _&&_ not (f k) (g k) (h k))
-step-digits p q r = xor-digits p (and-digits (not-digits q) r)
 
 -- ---- the table
 
@@ -63,23 +51,23 @@ step-digits p q r = xor-digits p (and-digits (not-digits q) r)
 abbrev image : ℕ → Bool → Bool → Bool → Bool → Bool → Bool
 image j a b c d e = bit (sbox (five a b c d e)) j
 
-table0 : same5 (out0 _⊕_ _&&_ not) (image 4) ≡ true
+table0 : same5 (out0 _⊕_ _&&_ _||_ not) (image 4) ≡ true
 unfolding bit odd sbox sboxTable five same5 both
 table0 = refl
 
-table1 : same5 (out1 _⊕_ _&&_ not) (image 3) ≡ true
+table1 : same5 (out1 _⊕_ _&&_ _||_ not) (image 3) ≡ true
 unfolding bit odd sbox sboxTable five same5 both
 table1 = refl
 
-table2 : same5 (out2 _⊕_ _&&_ not) (image 2) ≡ true
+table2 : same5 (out2 _⊕_ _&&_ _||_ not) (image 2) ≡ true
 unfolding bit odd sbox sboxTable five same5 both
 table2 = refl
 
-table3 : same5 (out3 _⊕_ _&&_ not) (image 1) ≡ true
+table3 : same5 (out3 _⊕_ _&&_ _||_ not) (image 1) ≡ true
 unfolding bit odd sbox sboxTable five same5 both
 table3 = refl
 
-table4 : same5 (mid4 _⊕_ _&&_ not) (image 0) ≡ true
+table4 : same5 (out4 _⊕_ _&&_ _||_ not) (image 0) ≡ true
 unfolding bit odd sbox sboxTable five same5 both
 table4 = refl
 
@@ -102,11 +90,11 @@ module _ (s : Words) (h : Fit s) where
   abbrev sliced : Words
   sliced =
       record {
-        x0 = out0 bitXor bitAnd inverted (s .x0) (s .x1) (s .x2) (s .x3) (s .x4);
-        x1 = out1 bitXor bitAnd inverted (s .x0) (s .x1) (s .x2) (s .x3) (s .x4);
-        x2 = out2 bitXor bitAnd inverted (s .x0) (s .x1) (s .x2) (s .x3) (s .x4);
-        x3 = out3 bitXor bitAnd inverted (s .x0) (s .x1) (s .x2) (s .x3) (s .x4);
-        x4 = mid4 bitXor bitAnd inverted (s .x0) (s .x1) (s .x2) (s .x3) (s .x4);
+        x0 = out0 bitXor bitAnd bitOr inverted (s .x0) (s .x1) (s .x2) (s .x3) (s .x4);
+        x1 = out1 bitXor bitAnd bitOr inverted (s .x0) (s .x1) (s .x2) (s .x3) (s .x4);
+        x2 = out2 bitXor bitAnd bitOr inverted (s .x0) (s .x1) (s .x2) (s .x3) (s .x4);
+        x3 = out3 bitXor bitAnd bitOr inverted (s .x0) (s .x1) (s .x2) (s .x3) (s .x4);
+        x4 = out4 bitXor bitAnd bitOr inverted (s .x0) (s .x1) (s .x2) (s .x3) (s .x4);
       }
 
   pub sliced-is : sliced ≡ pS s
@@ -118,14 +106,11 @@ module _ (s : Words) (h : Fit s) where
       let d3 = own (h .f3) in
       let d4 = own (h .f4) in
       let a0 = xor-digits d0 d4 in
-      let a2 = xor-digits d2 d1 in
-      let a4 = xor-digits d4 d3 in
-      let b0 = step-digits a0 d1 a2 in
-      let b2 = step-digits a2 d3 a4 in
-      let b4 = step-digits a4 a0 d1 in
-      let e0 = in-columns 4 (out0 _⊕_ _&&_ not) table0 (xor-digits b0 b4) in
-      let e1 = in-columns 3 (out1 _⊕_ _&&_ not) table1 (xor-digits (step-digits d1 a2 d3) b0) in
-      let e2 = in-columns 2 (out2 _⊕_ _&&_ not) table2 (not-digits b2) in
-      let e3 = in-columns 1 (out3 _⊕_ _&&_ not) table3 (xor-digits (step-digits d3 a4 a0) b2) in
-      let e4 = in-columns 0 (mid4 _⊕_ _&&_ not) table4 b4 in
+      let a2 = xor-digits d1 d2 in
+      let a4 = xor-digits d3 d4 in
+      let e0 = in-columns 4 (out0 _⊕_ _&&_ _||_ not) table0 (xor-digits (or-digits d1 (xor-digits a0 d2)) a4) in
+      let e1 = in-columns 3 (out1 _⊕_ _&&_ _||_ not) table1 (xor-digits (xor-digits (or-digits d3 a2) (and-digits d1 d2)) a0) in
+      let e2 = in-columns 2 (out2 _⊕_ _&&_ _||_ not) table2 (xor-digits (or-digits d3 (not-digits d4)) a2) in
+      let e3 = in-columns 1 (out3 _⊕_ _&&_ _||_ not) table3 (xor-digits (or-digits d0 a4) a2) in
+      let e4 = in-columns 0 (out4 _⊕_ _&&_ _||_ not) table4 (xor-digits (and-digits d1 (not-digits a0)) a4) in
       λ i. record { x0 = e0 i; x1 = e1 i; x2 = e2 i; x3 = e3 i; x4 = e4 i }

@@ -40,24 +40,19 @@ fn add_constant(w: Words, i: u32) -> Words
     }
 }
 
-// The S-box on all 64 columns at once.
+// The S-box on all 64 columns at once, by the shortest formulas found: an `or` spares an inversion and a sum.
 fn substitute(w: Words) -> Words
     ensures { λ r. ⌜ r ≡ pS w ⌝ }
 {
     let a0 = w.x0 ^ w.x4;
-    let a4 = w.x4 ^ w.x3;
-    let a2 = w.x2 ^ w.x1;
-    let b0 = a0 ^ (!w.x1 & a2);
-    let b1 = w.x1 ^ (!a2 & w.x3);
-    let b2 = a2 ^ (!w.x3 & a4);
-    let b3 = w.x3 ^ (!a4 & a0);
-    let b4 = a4 ^ (!a0 & w.x1);
+    let a2 = w.x1 ^ w.x2;
+    let a4 = w.x3 ^ w.x4;
     Words {
-        x0: b0 ^ b4,
-        x1: b1 ^ b0,
-        x2: !b2,
-        x3: b3 ^ b2,
-        x4: b4,
+        x0: (w.x1 | (a0 ^ w.x2)) ^ a4,
+        x1: (w.x3 | a2) ^ (w.x1 & w.x2) ^ a0,
+        x2: (w.x3 | !w.x4) ^ a2,
+        x3: (w.x0 | a4) ^ a2,
+        x4: (w.x1 & !a0) ^ a4,
     }
 }
 
@@ -69,11 +64,12 @@ fn turned(x: u64, n: u32) -> u64
     (x >> n) | (x << (64 - n))
 }
 
+// One turn inside the other spares a copy of the word.
 fn mix(x: u64, a: u32, b: u32) -> u64
-    requires { ⌜ ((0 < a) × (a < 64)) × ((0 < b) × (b < 64)) ⌝ }
+    requires { ⌜ (0 < a) × (a < b) × (b < 64) ⌝ }
     ensures { λ r. ⌜ r ≡ sigma a b x ⌝ }
 {
-    x ^ turned(x, a) ^ turned(x, b)
+    x ^ turned(x ^ turned(x, b - a), a)
 }
 
 fn diffuse(w: Words) -> Words
@@ -81,7 +77,7 @@ fn diffuse(w: Words) -> Words
 {
     Words {
         x0: mix(w.x0, 19, 28),
-        x1: mix(w.x1, 61, 39),
+        x1: mix(w.x1, 39, 61),
         x2: mix(w.x2, 1, 6),
         x3: mix(w.x3, 10, 17),
         x4: mix(w.x4, 7, 41),

@@ -59,7 +59,8 @@ xors-zeros zero xs h = ap (λ (zs : List ℕ). zs ++ xs) (xors-none xs)
 xors-zeros (suc n) [] h = absurd (omega arith)
 xors-zeros (suc n) (x ∷ xs) h = ap₂ (λ (z : ℕ) (zs : List ℕ). z ∷ zs) (xor-zero-r x) (xors-zeros n xs (omega arith))
 
-pub xors-first : (v n : ℕ) (xs : List ℕ) → suc n ≤ length xs → xors xs (v ∷ replicate n 0) ++ drop (suc n) xs ≡ xors xs (v ∷ []) ++ drop 1 xs
+pub xors-first : (v n : ℕ) (xs : List ℕ) → suc n ≤ length xs
+    → xors xs (v ∷ replicate n 0) ++ drop (suc n) xs ≡ xors xs (v ∷ []) ++ drop 1 xs
 unfolding xors
 xors-first v n [] h = absurd (omega arith)
 xors-first v n (x ∷ xs) h =

@@ -12,7 +12,7 @@ use denote.Laws.{Is}
 use denote.Plain.{UInt}
 use denote.Shadow.{shadow}
 use borrow.Author.Needs.{elem-fits}
-use Rattle.keccak.specs.Lanes.{lane}
+use Rattle.keccak.specs.Lanes.{at, lane}
 
 abbrev pub Owned : List (List ℕ) → List Val → Type 0
 Owned a vs = Is (Array (Array (UInt w16) 5) 5) a vs
@@ -37,3 +37,7 @@ long (p ∷ a) (u ∷ us) (suc y) l h = long a us y (le-of-suc-le-suc l) (h .1)
 
 pub five-lanes : (a : List (List ℕ)) (vs : List Val) → Owned a vs → (y : ℕ) → y < length a → length (getD a y []) ≡ 5
 five-lanes a vs h y l = long a (h .0) y l (h .1 .1)
+
+-- of one plane
+pub plane-fits : (p : List ℕ) (vs : List Val) → Is (Array (UInt w16) 5) p vs → (x : ℕ) → at p x < 2 ^ 16
+plane-fits p vs h x = elem-fits w16 w16 p (h .0) x (h .1 .1) tt .fits

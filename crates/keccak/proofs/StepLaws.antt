@@ -1,14 +1,15 @@
 -- What the code computes of a lane, against the bits of FIPS 202, a law for each step mapping.
 -- Assumes nothing.
 use mathlib.Core.Path.{_≡_, refl, sym, ap, ap₂, _∙_}
-use mathlib.Core.Bool.{Bool, _&&_}
+use mathlib.Core.Bool.{Bool, true, false, not, _&&_, _||_}
 use mathlib.Core.List.{List, [], _∷_}
 use Prim.Native.Nat.{ℕ, zero, suc, _+_, _*_, _-_, _%_, _^_, _<_}
 use native.Mathlib.Omega.{arith}
-use lib.Bits.{bitXor, bitAnd}
+use lib.Bits.{bitXor, bitAnd, bitOr}
 use lib.ListN.{length, getD, set}
 use Rattle.bits.specs.Digit.{bit, _⊕_, bit-xor, bit-and, bit-not, xor-true}
 use Rattle.bits.specs.Rotate.{rotl, bit-rotl}
+use Rattle.bits.specs.Word.{own, same-digits, xor-digits, and-digits, or-digits, not-digits}
 use Rattle.keccak.specs.Fips202.{C, D, θ, offset, ρ, π, χ, RC, ι}
 use Rattle.keccak.specs.Agree.{Agree, mod5}
 use Rattle.keccak.specs.Lanes.{five, at, lane, arrayOf, addedLane, parityLane, effectLane, chiLane}
@@ -48,6 +49,22 @@ unfolding π ρ arrayOf
 rho-pi-bits a x y z hx hy hz = bit-rotl 16 (offset ((x + 3 * y) % 5) x % 16) (lane a ((x + 3 * y) % 5) x) z hz
 
 -- ---- χ
+
+-- `!a ^ (b | !c)` is `a ^ (!b & c)`: in one digit, and in a lane
+or-digit : (a b c : Bool) → not a ⊕ (b || not c) ≡ a ⊕ (not b && c)
+or-digit true true c = refl
+or-digit true false true = refl
+or-digit true false false = refl
+or-digit false true c = refl
+or-digit false false true = refl
+or-digit false false false = refl
+
+pub chi-or : (a b c : ℕ) → a < 2 ^ 16 → b < 2 ^ 16 → c < 2 ^ 16
+    → bitXor (65535 - a) (bitOr b (65535 - c)) ≡ bitXor a (bitAnd (65535 - b) c)
+chi-or a b c ha hb hc =
+    same-digits {w = 16} (xor-digits (not-digits (own ha)) (or-digits (own hb) (not-digits (own hc))))
+    (xor-digits (own ha) (and-digits (not-digits (own hb)) (own hc)))
+    (λ z l. or-digit (bit a z) (bit b z) (bit c z))
 
 pub chi-bits : (a : List (List ℕ)) → ((x y : ℕ) → lane a x y < 2 ^ 16)
     → (x y z : ℕ) → x < 5 → y < 5 → z < 16 → bit (chiLane (getD a y []) x) z ≡ χ (arrayOf a) x y z

@@ -29,14 +29,14 @@ fn turned(p: [u16; 5], a: u16, b: u16, c: u16, d: u16, e: u16) -> [u16; 5]
     ]
 }
 
+// The planes from the last to the first, which spares copies of lanes.
 pub fn rho_pi(a: [[u16; 5]; 5]) -> [[u16; 5]; 5]
     ensures { λ r. ⌜ Agree (arrayOf r) (π (ρ (arrayOf a))) ⌝ }
 {
-    [
-        turned(moved(a, 0, 1, 2, 3, 4), 0, 12, 11, 5, 14),
-        turned(moved(a, 3, 4, 0, 1, 2), 12, 4, 3, 13, 13),
-        turned(moved(a, 1, 2, 3, 4, 0), 1, 6, 9, 8, 2),
-        turned(moved(a, 4, 0, 1, 2, 3), 11, 4, 10, 15, 8),
-        turned(moved(a, 2, 3, 4, 0, 1), 14, 7, 7, 9, 2),
-    ]
+    let p4 = turned(moved(a, 2, 3, 4, 0, 1), 14, 7, 7, 9, 2);
+    let p3 = turned(moved(a, 4, 0, 1, 2, 3), 11, 4, 10, 15, 8);
+    let p2 = turned(moved(a, 1, 2, 3, 4, 0), 1, 6, 9, 8, 2);
+    let p1 = turned(moved(a, 3, 4, 0, 1, 2), 12, 4, 3, 13, 13);
+    let p0 = turned(moved(a, 0, 1, 2, 3, 4), 0, 12, 11, 5, 14);
+    [p0, p1, p2, p3, p4]
 }

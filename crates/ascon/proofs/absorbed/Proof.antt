@@ -6,7 +6,7 @@ use lib.Bits.{bitXor}
 use lib.ListN.{take, drop}
 use denote.Ref.{now}
 use borrow.Author.Needs.{needs}
-use Rattle.bits.specs.Bytes.{bytes-take, bytes-drop}
+use Rattle.bits.specs.Bytes.{Bytes, bytes-take, bytes-drop}
 use Rattle.ascon.specs.Permutation.{bytesOf}
 use Rattle.bits.specs.Part.{length-part}
 use Rattle.ascon.proofs.Blocks.{withFirst, block-in}
@@ -20,8 +20,9 @@ returns c =
     let w = start .args .w in
     let s = now (start .args .s) in
     let at = start .args .at in
+    let bytes : Bytes s = record { each = λ i. known .shared-slice-known .given i .fits } in
     ap (λ (y : ℕ). bytesOf (withFirst w (bitXor (w .x0) y))) (c .before .load .ensures)
-    ∙ block-in w (take 8 (drop at s)) (length-part s at 8 (start .pre)) (bytes-take 8 (bytes-drop at (record { each = λ i. known .shared-slice-known .given i .fits })))
+    ∙ block-in w (take 8 (drop at s)) (length-part s at 8 (start .pre)) (bytes-take 8 (bytes-drop at bytes))
 
 pub absorbed-spec : {M : Type 1} → statement M
 absorbed-spec = tie.close (tie.spec (λ c κs. search needs) returns)

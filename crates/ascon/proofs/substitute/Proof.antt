@@ -8,7 +8,7 @@ use Rattle.ascon.proofs.substitute.Tie as tie
 
 returns : tie.Need-returns
 returns c =
-    let start = c .before .before .before .before .before .before .before .before .before in
+    let start = c .before .before .before .before .before .before .before .before .before .before .before in
     let fit : Fit (start .args .w) = omega arith in
     sliced-is (start .args .w) fit
 

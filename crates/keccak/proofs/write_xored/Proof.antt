@@ -8,6 +8,7 @@ use lib.Dec.{lit<}
 use lib.ListN.{length, getD, take, drop}
 use denote.Ref.{now}
 use borrow.Author.Needs.{needs}
+use Rattle.bits.specs.Bytes.{Bytes}
 use Rattle.bits.specs.Part.{length-part}
 use Rattle.keccak.specs.Lanes.{planeBytes}
 use Rattle.keccak.proofs.Written.{WrittenFrom, from-more}
@@ -29,12 +30,14 @@ returns c =
     let p = planeBytes (getD r 0 []) in
     let q = take 8 (planeBytes (getD r 1 [])) in
     let l : at ≤ length out = omega arith in
-    let w0 : WrittenFrom at p 10 (five .put-plane .last .0) out = record { is = five .put-plane .ensures; long = length-plane (getD r 0 []) } in
-    let w1 = from-more l w0 q 8 (length-part (planeBytes (getD r 1 [])) 0 8 (omega (arith, length-plane (getD r 1 [])))) (four .put-four .ensures) in
+    let eight = length-part (planeBytes (getD r 1 [])) 0 8 (omega (arith, length-plane (getD r 1 []))) in
+    let bytes : Bytes (now (start .args .text)) = record { each = λ i. known .shared-slice-known .given i .fits } in
+    let w0 : WrittenFrom at p 10 (five .put-plane .last .0) out =
+    record { is = five .put-plane .ensures; long = length-plane (getD r 0 []) } in
+    let w1 = from-more l w0 q 8 eight (four .put-four .ensures) in
     w1 .is
     ∙ ap (λ (s : List ℕ). take at out ++ (s ++ drop (at + 18) out))
-    (block-out (now (start .args .text)) at (start .pre .0) (record { each = λ i. known .shared-slice-known .given i .fits }) (start .args .a) r
-    (mixed .absorbed .ensures))
+    (block-out (now (start .args .text)) at (start .pre .0) bytes (start .args .a) r (mixed .absorbed .ensures))
 
 pub write-xored-spec : {M : Type 1} → statement M
 write-xored-spec =

@@ -20,7 +20,7 @@ returns c =
     let start = c0 .before .before in
     let a = start .args .t1 in
     by-lanes (λ x y. chiLane (getD a y []) x) (χ (arrayOf a)) (chi-bits a (lanes-fit a _ (start .good .0))) _
-    (λ j. c0 .mixed .ensures j ∷ c1 .mixed2 .ensures j ∷ c2 .mixed3 .ensures j ∷ c3 .mixed4 .ensures j ∷ c .mixed5 .ensures j ∷ [])
+    (λ j. c .mixed5 .ensures j ∷ c3 .mixed4 .ensures j ∷ c2 .mixed3 .ensures j ∷ c1 .mixed2 .ensures j ∷ c0 .mixed .ensures j ∷ [])
 
 pub chi-spec : {M : Type 1} → statement M
 chi-spec =

@@ -20,23 +20,23 @@ plane l by p q = q ∙ ap (λ (m : List ℕ). five (turnedLane m by)) p
 returns : tie.Need-returns
 unfolding offset offsets
 returns c =
-    let m4 = c .before in
-    let c3 = m4 .before in
-    let m3 = c3 .before in
-    let c2 = m3 .before in
-    let m2 = c2 .before in
-    let c1 = m2 .before in
+    let m0 = c .before in
+    let c1 = m0 .before in
     let m1 = c1 .before in
-    let c0 = m1 .before in
-    let m0 = c0 .before in
-    let a = m0 .before .args .a in
+    let c2 = m1 .before in
+    let m2 = c2 .before in
+    let c3 = m2 .before in
+    let m3 = c3 .before in
+    let c4 = m3 .before in
+    let m4 = c4 .before in
+    let a = m4 .before .args .a in
     let from : ℕ → List ℕ = λ y. five (λ x. lane a ((x + 3 * y) % 5) x) in
     let by : ℕ → List ℕ = λ y. five (λ x. offset ((x + 3 * y) % 5) x % 16) in
-    let p0 = plane (from 0) (by 0) (m0 .moved .ensures) (c0 .turned .ensures) in
-    let p1 = plane (from 1) (by 1) (m1 .moved2 .ensures) (c1 .turned2 .ensures) in
+    let p4 = plane (from 4) (by 4) (m4 .moved .ensures) (c4 .turned .ensures) in
+    let p3 = plane (from 3) (by 3) (m3 .moved2 .ensures) (c3 .turned2 .ensures) in
     let p2 = plane (from 2) (by 2) (m2 .moved3 .ensures) (c2 .turned3 .ensures) in
-    let p3 = plane (from 3) (by 3) (m3 .moved4 .ensures) (c3 .turned4 .ensures) in
-    let p4 = plane (from 4) (by 4) (m4 .moved5 .ensures) (c .turned5 .ensures) in
+    let p1 = plane (from 1) (by 1) (m1 .moved4 .ensures) (c1 .turned4 .ensures) in
+    let p0 = plane (from 0) (by 0) (m0 .moved5 .ensures) (c .turned5 .ensures) in
     by-lanes (λ x y. rotl 16 (offset ((x + 3 * y) % 5) x % 16) (lane a ((x + 3 * y) % 5) x)) (π (ρ (arrayOf a))) (rho-pi-bits a) _
     (λ j. p0 j ∷ p1 j ∷ p2 j ∷ p3 j ∷ p4 j ∷ [])
 
