@@ -66,7 +66,7 @@ pub fn read_case(count: u32) -> Case {
         b"CT",
         lines::read_hex(b"CT = ", &mut both) == std::num::wrapping_add_u32(m, 16),
     );
-    let end_right = saying::line(count, b"that is empty", lines::read_empty_line());
+    let end_right = saying::line(count, b"behind CT", lines::read_empty_line());
     let s = parted(both, m);
     let sealed = s.out;
     let tag = s.tag;

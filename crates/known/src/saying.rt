@@ -23,9 +23,9 @@ fn case(count: u32) {
 pub fn line(count: u32, name: &[u8], right: bool) -> bool {
     if !right {
         case(count);
-        say(b"no line ");
+        say(b"line ");
         say(name);
-        say(b" as it should be\n");
+        say(b" is not as it should be\n");
     }
     right
 }
