@@ -1,0 +1,4 @@
+// The known answers of instance 2, ISAP-A-128.
+fn main() {
+    known::run(2);
+}

@@ -1,0 +1,59 @@
+/* One call of the library on bytes from the command line, for counting instructions. Whatever the bytes are, the program itself does
+   the same work: hex digits are read and written without a branch, and strings of equal length take equal steps.
+
+   probe seal|open|idle INSTANCE ASSOC_LEN TEXT_LEN HEX
+   HEX is key, nonce, tag, associated data, text; seal does not read the tag, and idle makes no call. Prints the answer's number, the
+   output and the tag. */
+#include "isap.h"
+#include <stdio.h>
+#include <stdlib.h>
+#include <string.h>
+
+enum { STRING = 16, ASSOC = 256, TEXT = 4096, INPUT = 3 * STRING + ASSOC + TEXT };
+
+static uint8_t digit(char c)
+{
+    return (uint8_t)((c & 15) + 9 * (c >> 6));
+}
+
+static void read_hex(uint8_t *to, const char *hex, size_t len)
+{
+    for (size_t i = 0; i < len; i++)
+        to[i] = (uint8_t)(digit(hex[2 * i]) << 4 | digit(hex[2 * i + 1]));
+}
+
+static void print_hex(const uint8_t *from, size_t len)
+{
+    static const char digits[] = "0123456789abcdef";
+    char line[2 * TEXT + 1];
+    for (size_t i = 0; i < len; i++) {
+        line[2 * i] = digits[from[i] >> 4];
+        line[2 * i + 1] = digits[from[i] & 15];
+    }
+    line[2 * len] = '\n';
+    fwrite(line, 1, 2 * len + 1, stdout);
+}
+
+int main(int argc, char **argv)
+{
+    static uint8_t in[INPUT], out[TEXT];
+    if (argc != 6)
+        return 2;
+    uint32_t instance = (uint32_t)atoi(argv[2]);
+    size_t a = (size_t)atoi(argv[3]), m = (size_t)atoi(argv[4]);
+    size_t len = 3 * STRING + a + m;
+    if (a > ASSOC || m > TEXT || strlen(argv[5]) != 2 * len)
+        return 2;
+    read_hex(in, argv[5], len);
+    uint8_t *key = in, *nonce = key + STRING, *tag = nonce + STRING, *assoc = tag + STRING, *text = assoc + a;
+    uint64_t answer = 0;
+    if (strcmp(argv[1], "seal") == 0)
+        answer = isap_seal(instance, key, STRING, nonce, STRING, assoc, a, text, m, out, m, tag, STRING);
+    if (strcmp(argv[1], "open") == 0)
+        answer = isap_open(instance, key, STRING, nonce, STRING, assoc, a, text, m, tag, STRING, out, m);
+    uint8_t number = (uint8_t)answer;
+    print_hex(&number, 1);
+    print_hex(out, m);
+    print_hex(tag, STRING);
+    return 0;
+}
