@@ -73,8 +73,9 @@ function stand(    i, all, met, missed) {
         else
             missed = missed (missed ? ", " : "") i
     }
-    printf "The aim is that sealing 4,096 bytes takes at most %.1f times the baseline's instructions in each instance. It takes %s\n", aim, all
-    printf "times in instances 1 to 4. The aim is met in %s, and missed in %s.\n", met ? met : "none", missed ? missed : "none"
+    printf "The aim is that sealing 4,096 bytes takes at most %.1f times the baseline's instructions in each instance.\n", aim
+    printf "It takes %s times in instances 1 to 4. ", all
+    printf "The aim is met in %s, and missed in %s.\n", met ? met : "none", missed ? missed : "none"
     furthest()
 }
 
@@ -107,7 +108,8 @@ function whole_row(i, a, m) {
 function whole(    i, x, y) {
     for (i = 1; i <= 4; i++) {
         printf "%sInstance %d, %s:\n\n", (i > 1 ? "\n" : ""), i, name[i]
-        print "| a | m | rounds | sealing: ours | baseline | ratio | opening: ours | baseline | ratio |\n|---|---|---|---|---|---|---|---|---|"
+        print "| a | m | rounds | sealing: ours | baseline | ratio | opening: ours | baseline | ratio |"
+        print "|---|---|---|---|---|---|---|---|---|"
         for (x = 1; x <= 2; x++)
             for (y = 1; y <= 6; y++)
                 whole_row(i, assocs[x], texts[y])

@@ -1,7 +1,7 @@
 //! Keccak-p[400] on 25 lanes, four rounds at a time.
 //!
 //! A lane of 16 bits stands twice in a word of 32, so that it turns as that word turns. Six lanes are kept complemented:
-//! with `or` beside `and` the step chi then needs six complements a round instead of 25.
+//! with `or` beside `and` the step chi then needs five complements a round instead of 25.
 
 use crate::sponge::Sponge;
 

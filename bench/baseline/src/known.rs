@@ -19,10 +19,15 @@ fn sixteen(bytes: &[u8]) -> [u8; 16] {
     sixteen
 }
 
-/// The cases of a file: lines `Name = value`, an empty line after each case.
+/// A line `Name = value`.
+fn field_of(line: &str) -> Option<(String, String)> {
+    line.split_once('=').map(|(name, value)| (name.trim().to_string(), value.trim().to_string()))
+}
+
+/// The cases of a file: an empty line stands after each.
 fn cases_of(file: &str) -> Vec<Case> {
-    let case = |lines: &str| lines.lines().filter_map(|line| line.split_once('=')).map(|(name, value)| (name.trim().to_string(), value.trim().to_string())).collect();
-    file.split("\n\n").map(case).filter(|case: &Case| !case.is_empty()).collect()
+    let cases = file.split("\n\n").map(|lines| lines.lines().filter_map(field_of).collect());
+    cases.filter(|case: &Case| !case.is_empty()).collect()
 }
 
 fn is_right(instance: u32, case: &Case) -> bool {
