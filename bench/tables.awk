@@ -1,0 +1,135 @@
+# The tables of docs/BENCHMARK.md: `part` says which. Lines are 'OPERATION INSTANCE ASSOC TEXT BUDGET OURS BASELINE', for the part `stack`
+# 'INSTANCE SEALING OPENING'.
+
+BEGIN {
+    split("ISAP-A-128a ISAP-A-128 ISAP-K-128a ISAP-K-128", name)
+    split("8 8 18 18", block)
+    split("12 12 16 20", hash)
+    split("6 12 8 12", encrypt)
+    split("151 1548 143 1548", rekey)
+    split("0 16", assocs)
+    split("0 16 64 256 1024 4096", texts)
+    split("64 1024 4096", sliced_texts)
+    split("1 8 64 4294967295", budgets)
+    aim = 1.5
+}
+
+part == "stack" {
+    stack = stack "| " $1 " " name[$1] " | " spelled($2) " | " spelled($3) " |\n"
+    next
+}
+
+{
+    ours[$1, $2, $3, $4, $5] = $6
+    baseline[$1, $2, $3, $4, $5] = $7
+}
+
+END {
+    if (part == "stand")
+        stand()
+    else if (part == "rounds")
+        a_round()
+    else if (part == "whole")
+        whole()
+    else if (part == "slices")
+        slices()
+    else if (part == "stack")
+        printf "| Instance | sealing | opening |\n|---|---|---|\n%s", stack
+}
+
+# A number with commas between its thousands.
+function spelled(n,    digits, s) {
+    digits = sprintf("%d", n)
+    for (s = ""; length(digits) > 3; digits = substr(digits, 1, length(digits) - 3))
+        s = "," substr(digits, length(digits) - 2) s
+    return digits s
+}
+
+# The rounds of a sealing, and of an opening with a right tag.
+function rounds(i, a, m,    blocks) {
+    blocks = int((m + block[i] - 1) / block[i])
+    return hash[i] * (int(a / block[i]) + int(m / block[i]) + 4) + rekey[i] + (m ? rekey[i] + encrypt[i] * blocks : 0)
+}
+
+function ratio(k) {
+    return ours[k] / baseline[k]
+}
+
+# What a job costs: ours, the baseline's and how many times that ours is.
+function cost(k) {
+    return sprintf("%s | %s | %.2f", spelled(ours[k]), spelled(baseline[k]), ratio(k))
+}
+
+function key(operation, i, a, m, budget) {
+    return operation SUBSEP i SUBSEP a SUBSEP m SUBSEP budget
+}
+
+# Where we stand at 4,096 bytes, in words, and where we are furthest from the baseline.
+function stand(    i, all, met, missed) {
+    for (i = 1; i <= 4; i++) {
+        all = all (i > 1 ? (i < 4 ? ", " : " and ") : "") sprintf("%.2f", ratio(key(1, i, 0, 4096, 0)))
+        if (ratio(key(1, i, 0, 4096, 0)) <= aim)
+            met = met (met ? ", " : "") i
+        else
+            missed = missed (missed ? ", " : "") i
+    }
+    printf "The aim is that sealing 4,096 bytes takes at most %.1f times the baseline's instructions in each instance.\n", aim
+    printf "It takes %s times in instances 1 to 4. ", all
+    printf "The aim is met in %s, and missed in %s.\n", met ? met : "none", missed ? missed : "none"
+    furthest()
+}
+
+function furthest(    k, worst, f) {
+    for (k in ours)
+        if (k !~ /^3/ && (worst == "" || ratio(k) > ratio(worst)))
+            worst = k
+    split(worst, f, SUBSEP)
+    printf "Of whole calls it is furthest from the baseline when %s %s bytes with %s of associated data in instance %s: %.2f times.\n", \
+        f[1] == 1 ? "sealing" : "opening", spelled(f[4]), f[3], f[2], ratio(worst)
+}
+
+# Instructions a round at 4,096 bytes, all that is not a round counted in.
+function a_round(    i, k, r) {
+    print "| Instance | rounds | ours | a round | baseline | a round | ours/baseline |\n|---|---|---|---|---|---|---|"
+    for (i = 1; i <= 4; i++) {
+        k = key(1, i, 0, 4096, 0)
+        r = rounds(i, 0, 4096)
+        printf "| %d %s | %s | %s | %.1f | %s | %.1f | %.2f |\n", i, name[i], spelled(r), spelled(ours[k]), ours[k] / r, \
+            spelled(baseline[k]), baseline[k] / r, ratio(k)
+    }
+}
+
+# A row, if it was measured: times are taken for some lengths only.
+function whole_row(i, a, m) {
+    if (key(1, i, a, m, 0) in ours)
+        printf "| %d | %s | %s | %s | %s |\n", a, spelled(m), spelled(rounds(i, a, m)), cost(key(1, i, a, m, 0)), cost(key(2, i, a, m, 0))
+}
+
+function whole(    i, x, y) {
+    for (i = 1; i <= 4; i++) {
+        printf "%sInstance %d, %s:\n\n", (i > 1 ? "\n" : ""), i, name[i]
+        print "| a | m | rounds | sealing: ours | baseline | ratio | opening: ours | baseline | ratio |"
+        print "|---|---|---|---|---|---|---|---|---|"
+        for (x = 1; x <= 2; x++)
+            for (y = 1; y <= 6; y++)
+                whole_row(i, assocs[x], texts[y])
+    }
+}
+
+# The four budgets for one length.
+function slices_row(i, m,    x, k, r) {
+    r = rounds(i, 16, m)
+    printf "| %d %s | %s | %s ", i, name[i], spelled(m), spelled(r)
+    for (x = 1; x <= 4; x++) {
+        k = key(3, i, 16, m, budgets[x])
+        printf "| %s (%.2f) ", spelled(ours[k]), ratio(k)
+    }
+    printf "| %s |\n", spelled((ours[key(3, i, 16, m, 1)] - ours[key(3, i, 16, m, budgets[4])]) / (r - 1))
+}
+
+function slices(    i, y) {
+    print "| Instance | m | rounds | budget 1 | 8 | 64 | all | a slice more |\n|---|---|---|---|---|---|---|---|"
+    for (i = 1; i <= 4; i++)
+        for (y = 1; y <= 3; y++)
+            slices_row(i, sliced_texts[y])
+}

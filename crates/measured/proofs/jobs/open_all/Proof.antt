@@ -1,0 +1,28 @@
+-- `measured::jobs::open_all` is safe and ends: the loop counts down what is left.
+-- Assumes nothing.
+use mathlib.Core.Path.{_≡_}
+use lib.ListN.{length}
+use borrow.Author.Needs.{needs}
+use Rattle.measured.proofs.jobs.open_all.Statement.{statement}
+use Rattle.measured.proofs.jobs.open_all.Tie as tie
+
+abbrev Inv-loop : tie.InvT-loop
+Inv-loop r assoc cipher tag out₀ numbers₀ left₀ out numbers left = length out ≡ length out₀
+
+abbrev μ-loop : tie.MeasureT-loop
+μ-loop r assoc cipher tag out₀ numbers₀ left₀ out numbers left = left
+
+pub open-all-spec : {M : Type 1} → statement M
+open-all-spec =
+    tie.close
+    (tie.spec
+    Inv-loop
+    μ-loop
+    (λ c. search needs)
+    (λ c κs. search needs)
+    (λ c κs. search needs)
+    (λ c. search needs)
+    (λ c. search needs)
+    (λ c. search needs)
+    (λ c. search needs)
+    (λ c. search needs))
