@@ -1,4 +1,5 @@
 /* The library through C: every number from 0 to 8 with what it leaves, the order of refusals, and document 01's table of rounds. */
+#include <errno.h>
 #include <string.h>
 #include <sys/mman.h>
 
@@ -76,33 +77,35 @@ static void lengths_above_32_bits(void)
     munmap((void *)(uintptr_t)much, over + 16);
 }
 
-/* Sealed, opened, and opened with a wrong tag: numbers, rounds, bytes. */
+static void answers(uint64_t answer, uint32_t number, uint32_t rounds)
+{
+    check(isap_number(answer) == number && isap_rounds(answer) == rounds);
+}
+
+/* Planned, sealed, opened, and opened with a wrong tag: numbers, rounds, bytes. */
 static void rounds_of(uint32_t instance, size_t assoc, size_t text, uint32_t verify, uint32_t total)
 {
     static uint8_t plain[ISAP_TEXT_MAX];
     const struct lengths lengths = {16, 16, assoc, text, text, 16};
+    answers(isap_plan_verify(instance, (uint32_t)assoc, (uint32_t)text), ISAP_ENDED_WELL, verify);
+    answers(isap_plan_total(instance, (uint32_t)assoc, (uint32_t)text), ISAP_ENDED_WELL, total);
+    errno = ERANGE;
     lend_all(&call, instance, &lengths);
     memcpy(plain, call.text.at, text);
-    uint64_t answer = seal(&call);
-    check(isap_number(answer) == ISAP_ENDED_WELL && isap_rounds(answer) == total);
+    answers(seal(&call), ISAP_ENDED_WELL, total);
     check(inputs_unchanged(&call) && guards_unchanged(&call.out) && guards_unchanged(&call.tag));
     check(!unchanged(&call.tag) && (text == 0 || !unchanged(&call.out)));
     lend_bytes(&call.text, call.out.at, text);
     remember(&call.tag);
     lend(&call.out, text);
-    answer = open_sealed(&call);
-    check(isap_number(answer) == ISAP_ENDED_WELL && isap_rounds(answer) == total);
+    answers(open_sealed(&call), ISAP_ENDED_WELL, total);
     check(memcmp(call.out.at, plain, text) == 0);
     check(inputs_unchanged(&call) && guards_unchanged(&call.out) && unchanged(&call.tag));
     damage(&call.tag);
     lend(&call.out, text);
-    answer = open_sealed(&call);
-    check(isap_number(answer) == ISAP_WRONG_TAG && isap_rounds(answer) == verify);
+    answers(open_sealed(&call), ISAP_WRONG_TAG, verify);
     check(inputs_unchanged(&call) && unchanged(&call.out) && unchanged(&call.tag));
-    answer = isap_plan_verify(instance, (uint32_t)assoc, (uint32_t)text);
-    check(isap_number(answer) == 0 && isap_rounds(answer) == verify);
-    answer = isap_plan_total(instance, (uint32_t)assoc, (uint32_t)text);
-    check(isap_number(answer) == 0 && isap_rounds(answer) == total);
+    check(errno == ERANGE);
 }
 
 /* 'Round counts to check'. */
