@@ -1,0 +1,85 @@
+/*
+ * A library with a fault: stands between a test and the library (linked with --wrap) and spoils what a call gives, as the environment's
+ * FAULT says. The script `faults` sees to it that a test fails with each, and passes with none.
+ */
+#include <stdlib.h>
+#include <string.h>
+
+#include "isap.h"
+
+uint64_t __real_isap_seal(uint32_t, const uint8_t *, size_t, const uint8_t *, size_t, const uint8_t *, size_t, const uint8_t *, size_t,
+                          uint8_t *, size_t, uint8_t *, size_t);
+uint64_t __real_isap_open(uint32_t, const uint8_t *, size_t, const uint8_t *, size_t, const uint8_t *, size_t, const uint8_t *, size_t,
+                          const uint8_t *, size_t, uint8_t *, size_t);
+uint64_t __wrap_isap_seal(uint32_t, const uint8_t *, size_t, const uint8_t *, size_t, const uint8_t *, size_t, const uint8_t *, size_t,
+                          uint8_t *, size_t, uint8_t *, size_t);
+uint64_t __wrap_isap_open(uint32_t, const uint8_t *, size_t, const uint8_t *, size_t, const uint8_t *, size_t, const uint8_t *, size_t,
+                          const uint8_t *, size_t, uint8_t *, size_t);
+
+static int fault(const char *name)
+{
+    const char *wanted = getenv("FAULT");
+    return wanted != NULL && strcmp(wanted, name) == 0;
+}
+
+static void flip(const uint8_t *at)
+{
+    *(uint8_t *)(uintptr_t)at ^= 0x20;
+}
+
+/* The faults of an answer in either direction. */
+static uint64_t spoiled(uint64_t answer)
+{
+    uint32_t number = isap_number(answer);
+    if (fault("one_round_more") && isap_rounds(answer) > 0)
+        return answer + ((uint64_t)1 << 32);
+    if (fault("rounds_of_a_refusal") && number == ISAP_LONG_TEXT)
+        return answer + ((uint64_t)1 << 32);
+    if (fault("key_and_nonce_exchanged") && (number == ISAP_BAD_KEY || number == ISAP_BAD_NONCE))
+        return ISAP_BAD_KEY + ISAP_BAD_NONCE - number;
+    return answer;
+}
+
+uint64_t __wrap_isap_seal(uint32_t instance, const uint8_t *key, size_t key_len, const uint8_t *nonce, size_t nonce_len,
+                          const uint8_t *assoc, size_t assoc_len, const uint8_t *text, size_t text_len, uint8_t *out, size_t out_len,
+                          uint8_t *tag, size_t tag_len)
+{
+    uint64_t answer = __real_isap_seal(instance, key, key_len, nonce, nonce_len, assoc, assoc_len, text, text_len, out, out_len, tag,
+                                       tag_len);
+    int well = isap_number(answer) == ISAP_ENDED_WELL;
+    if (fault("byte_behind_out") && well)
+        flip(out + out_len);
+    if (fault("byte_before_tag") && well)
+        flip(tag - 1);
+    if (fault("key_written") && well)
+        flip(key);
+    if (fault("tag_written_with_a_refusal") && isap_number(answer) == ISAP_LONG_ASSOC && tag_len > 0)
+        flip(tag);
+    if (fault("ciphertext_bit") && well && out_len > 0)
+        flip(out);
+    if (fault("another_tag") && well)
+        flip(tag);
+    return spoiled(answer);
+}
+
+uint64_t __wrap_isap_open(uint32_t instance, const uint8_t *key, size_t key_len, const uint8_t *nonce, size_t nonce_len,
+                          const uint8_t *assoc, size_t assoc_len, const uint8_t *text, size_t text_len, const uint8_t *tag,
+                          size_t tag_len, uint8_t *out, size_t out_len)
+{
+    uint8_t received[ISAP_TAG_BYTES];
+    if (fault("another_tag") && tag_len == sizeof received) {
+        memcpy(received, tag, sizeof received);
+        flip(received);
+        tag = received;
+    }
+    uint64_t answer = __real_isap_open(instance, key, key_len, nonce, nonce_len, assoc, assoc_len, text, text_len, tag, tag_len, out,
+                                       out_len);
+    int wrong = isap_number(answer) == ISAP_WRONG_TAG;
+    if (fault("wrong_tag_ends_well") && wrong)
+        return answer - ISAP_WRONG_TAG;
+    if (fault("text_written_with_a_wrong_tag") && wrong && out_len > 0)
+        flip(out);
+    if (fault("plaintext_bit") && isap_number(answer) == ISAP_ENDED_WELL && out_len > 0)
+        flip(out + out_len - 1);
+    return spoiled(answer);
+}

@@ -1,0 +1,172 @@
+/*
+ * Random calls of the library: usage `fuzz CALLS SEED FILE`. Lengths and instances are right or wrong in every combination, buffers stand
+ * at odd places between guard bytes, and each answer is held to the rules that rules.c has by itself: number, rounds, and which bytes may
+ * change. What was sealed is opened again, then damaged and refused. For the bytes, sealings are written to FILE for the second program,
+ * a line each: instance, key, nonce, associated data, text, ciphertext with tag, in hex, '-' where there is none.
+ */
+#include <inttypes.h>
+#include <stdio.h>
+#include <stdlib.h>
+#include <string.h>
+
+#include "draws.h"
+#include "isap.h"
+#include "lent.h"
+#include "random.h"
+
+enum { NUMBERS = 9, SEALINGS_FOR_EACH_LINE = 16 };
+
+static struct call call;
+static unsigned long calls, sealings, lines, answers[2][NUMBERS];
+static FILE *samples;
+
+/* Ends the run at the first thing that is wrong. */
+static void hold(bool holds, const char *what)
+{
+    if (holds)
+        return;
+    printf("fuzz: call %lu (instance %" PRIu32 ", key %zu, nonce %zu, assoc %zu, text %zu, out %zu, tag %zu): %s\n", calls, call.instance,
+           call.key.len, call.nonce.len, call.assoc.len, call.text.len, call.out.len, call.tag.len, what);
+    exit(1);
+}
+
+/* Counts a call and holds its answer to the one expected. */
+static void expect(int opening, uint64_t answer, uint32_t number, uint32_t rounds)
+{
+    calls++;
+    hold(isap_number(answer) == number, "number");
+    hold(isap_rounds(answer) == rounds, "rounds");
+    answers[opening][number]++;
+}
+
+/* A refusal in both directions: no byte changes. */
+static void refused_calls(void)
+{
+    uint32_t instance = draw_instance();
+    struct lengths lengths = draw_lengths();
+    spoil(&instance, &lengths);
+    uint32_t number = rules_refusal(instance, &lengths);
+    lend_all(&call, instance, &lengths);
+    expect(0, seal(&call), number, 0);
+    expect(1, open_sealed(&call), number, 0);
+    hold(inputs_unchanged(&call) && unchanged(&call.out) && unchanged(&call.tag), "a refusal changed a byte");
+}
+
+static void write_digits(const struct lent *lent)
+{
+    for (size_t i = 0; i < lent->len; i++)
+        fprintf(samples, "%02x", lent->at[i]);
+}
+
+static void write_field(const struct lent *lent)
+{
+    if (lent->len == 0)
+        fputc('-', samples);
+    write_digits(lent);
+    fputc(' ', samples);
+}
+
+static void write_sealing(void)
+{
+    fprintf(samples, "%" PRIu32 " ", call.instance);
+    write_field(&call.key);
+    write_field(&call.nonce);
+    write_field(&call.assoc);
+    write_field(&call.text);
+    write_digits(&call.out);
+    write_digits(&call.tag);
+    fputc('\n', samples);
+    lines++;
+}
+
+static void sealed_call(const struct lengths *lengths)
+{
+    expect(0, seal(&call), 0, rules_total(call.instance, lengths->assoc, lengths->text));
+    hold(inputs_unchanged(&call), "a sealing changed its input");
+    hold(guards_unchanged(&call.out) && guards_unchanged(&call.tag), "a sealing wrote outside");
+    if (sealings++ % SEALINGS_FOR_EACH_LINE == 0)
+        write_sealing();
+}
+
+static void opened_call(const struct lengths *lengths, const uint8_t *plain)
+{
+    lend(&call.out, lengths->out);
+    expect(1, open_sealed(&call), 0, rules_total(call.instance, lengths->assoc, lengths->text));
+    hold(inputs_unchanged(&call) && unchanged(&call.tag), "an opening changed its input");
+    hold(guards_unchanged(&call.out), "an opening wrote outside");
+    hold(memcmp(call.out.at, plain, lengths->text) == 0, "the text did not come back");
+}
+
+/* One bit flipped in the tag, or in anything else that the tag vouches for. */
+static void damaged_call(const struct lengths *lengths)
+{
+    struct lent *targets[] = {&call.tag, &call.text, &call.assoc, &call.nonce, &call.key};
+    struct lent *target = targets[one_in(2) ? 0 : random_below(5)];
+    damage(target->len == 0 ? &call.tag : target);
+    lend(&call.out, lengths->out);
+    expect(1, open_sealed(&call), 8, rules_verify(call.instance, lengths->assoc, lengths->text));
+    hold(inputs_unchanged(&call) && unchanged(&call.tag) && unchanged(&call.out), "a wrong tag changed a byte");
+}
+
+static void accepted_calls(void)
+{
+    static uint8_t plain[ISAP_TEXT_MAX];
+    struct lengths lengths = draw_lengths();
+    lend_all(&call, draw_instance(), &lengths);
+    memcpy(plain, call.text.at, lengths.text);
+    sealed_call(&lengths);
+    lend_bytes(&call.text, call.out.at, lengths.text);
+    remember(&call.tag);
+    opened_call(&lengths, plain);
+    damaged_call(&lengths);
+}
+
+/* Plans of any two lengths. */
+static void planned_calls(void)
+{
+    uint32_t instance = one_in(4) ? draw_unknown_instance() : draw_instance();
+    uint32_t assoc = one_in(4) ? (uint32_t)random_word() : random_below(2 * ISAP_ASSOC_MAX);
+    uint32_t text = one_in(4) ? (uint32_t)random_word() : random_below(2 * ISAP_TEXT_MAX);
+    struct lengths lengths = {16, 16, assoc, text, text, 16};
+    uint32_t number = rules_refusal(instance, &lengths);
+    uint64_t verify = isap_plan_verify(instance, assoc, text), total = isap_plan_total(instance, assoc, text);
+    hold(isap_number(verify) == number && isap_number(total) == number, "number of a plan");
+    hold(isap_rounds(verify) == (number == 0 ? rules_verify(instance, assoc, text) : 0), "verification of a plan");
+    hold(isap_rounds(total) == (number == 0 ? rules_total(instance, assoc, text) : 0), "total of a plan");
+}
+
+static void print_summary(const char *path)
+{
+    static const char *const directions[] = {"seal", "open"};
+    printf("fuzz: %lu calls as the rules have them\n", calls);
+    for (int direction = 0; direction < 2; direction++) {
+        printf("  isap_%s", directions[direction]);
+        for (int number = 0; number < NUMBERS; number++)
+            printf("  %d: %lu", number, answers[direction][number]);
+        printf("\n");
+    }
+    printf("  %lu sealings written to %s\n", lines, path);
+}
+
+int main(int count, char **words)
+{
+    if (count != 4 || (samples = fopen(words[3], "w")) == NULL) {
+        fprintf(stderr, "usage: fuzz CALLS SEED FILE\n");
+        return 2;
+    }
+    unsigned long wanted = strtoul(words[1], NULL, 10);
+    random_begin(strtoull(words[2], NULL, 10));
+    while (calls < wanted) {
+        if (random_below(8) < 5)
+            refused_calls();
+        else
+            accepted_calls();
+        planned_calls();
+    }
+    if (fclose(samples) != 0) {
+        fprintf(stderr, "fuzz: cannot write %s\n", words[3]);
+        return 2;
+    }
+    print_summary(words[3]);
+    return 0;
+}

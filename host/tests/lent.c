@@ -1,0 +1,71 @@
+#include "lent.h"
+
+#include <string.h>
+
+#include "isap.h"
+#include "random.h"
+
+void remember(struct lent *lent)
+{
+    memcpy(lent->before, lent->at - LENT_GUARD, LENT_GUARD + lent->len + LENT_GUARD);
+}
+
+void lend(struct lent *lent, size_t len)
+{
+    lent->at = lent->room + LENT_GUARD + random_below(LENT_SHIFTS);
+    lent->len = len;
+    random_fill(lent->at - LENT_GUARD, LENT_GUARD + len + LENT_GUARD);
+    remember(lent);
+}
+
+void lend_bytes(struct lent *lent, const uint8_t *bytes, size_t len)
+{
+    lend(lent, len);
+    memmove(lent->at, bytes, len);
+    remember(lent);
+}
+
+void damage(struct lent *lent)
+{
+    lent->at[random_below((uint32_t)lent->len)] ^= (uint8_t)(1u << random_below(8));
+    remember(lent);
+}
+
+void lend_all(struct call *call, uint32_t instance, const struct lengths *lengths)
+{
+    call->instance = instance;
+    lend(&call->key, lengths->key);
+    lend(&call->nonce, lengths->nonce);
+    lend(&call->assoc, lengths->assoc);
+    lend(&call->text, lengths->text);
+    lend(&call->out, lengths->out);
+    lend(&call->tag, lengths->tag);
+}
+
+bool unchanged(const struct lent *lent)
+{
+    return memcmp(lent->before, lent->at - LENT_GUARD, LENT_GUARD + lent->len + LENT_GUARD) == 0;
+}
+
+bool guards_unchanged(const struct lent *lent)
+{
+    return memcmp(lent->before, lent->at - LENT_GUARD, LENT_GUARD) == 0 &&
+           memcmp(lent->before + LENT_GUARD + lent->len, lent->at + lent->len, LENT_GUARD) == 0;
+}
+
+bool inputs_unchanged(const struct call *call)
+{
+    return unchanged(&call->key) && unchanged(&call->nonce) && unchanged(&call->assoc) && unchanged(&call->text);
+}
+
+uint64_t seal(struct call *call)
+{
+    return isap_seal(call->instance, call->key.at, call->key.len, call->nonce.at, call->nonce.len, call->assoc.at, call->assoc.len,
+                     call->text.at, call->text.len, call->out.at, call->out.len, call->tag.at, call->tag.len);
+}
+
+uint64_t open_sealed(struct call *call)
+{
+    return isap_open(call->instance, call->key.at, call->key.len, call->nonce.at, call->nonce.len, call->assoc.at, call->assoc.len,
+                     call->text.at, call->text.len, call->tag.at, call->tag.len, call->out.at, call->out.len);
+}

@@ -1,0 +1,141 @@
+/* The library through C: every number from 0 to 8 with what it leaves, the order of refusals, and document 01's table of rounds. */
+#include <errno.h>
+#include <string.h>
+#include <sys/mman.h>
+
+#include "checks.h"
+#include "isap.h"
+#include "lent.h"
+
+static struct call call;
+
+/* A call with these lengths is refused by this number in both directions, and changes nothing. */
+static void refused(uint32_t instance, const struct lengths *lengths, uint32_t number)
+{
+    uint64_t (*const calls[])(struct call *) = {seal, open_sealed};
+    for (int i = 0; i < 2; i++) {
+        lend_all(&call, instance, lengths);
+        check(calls[i](&call) == number);
+        check(inputs_unchanged(&call) && unchanged(&call.out) && unchanged(&call.tag));
+    }
+}
+
+/* Everything is wrong; mending one thing after the other gives the next number. */
+static void refusals_in_order(void)
+{
+    struct lengths lengths = {15, 17, 257, 4097, 4096, 15};
+    refused(0, &lengths, 1);
+    refused(1, &lengths, 2);
+    lengths.key = 16;
+    refused(2, &lengths, 3);
+    lengths.nonce = 16;
+    refused(3, &lengths, 4);
+    lengths.assoc = 256;
+    refused(4, &lengths, 5);
+    lengths.text = 4095;
+    refused(1, &lengths, 6);
+    lengths.out = 4095;
+    refused(2, &lengths, 7);
+}
+
+static void refusals_alone(void)
+{
+    const struct lengths right = {16, 16, 8, 8, 8, 16};
+    static const struct {
+        uint32_t instance;
+        struct lengths lengths;
+        uint32_t number;
+    } cases[] = {
+        {5, {16, 16, 8, 8, 8, 16}, 1},    {UINT32_MAX, {16, 16, 8, 8, 8, 16}, 1},
+        {1, {0, 16, 8, 8, 8, 16}, 2},     {1, {17, 16, 8, 8, 8, 16}, 2},
+        {2, {16, 0, 8, 8, 8, 16}, 3},     {2, {16, 32, 8, 8, 8, 16}, 3},
+        {3, {16, 16, 257, 8, 8, 16}, 4},  {4, {16, 16, 8, 4097, 4097, 16}, 5},
+        {1, {16, 16, 8, 8, 9, 16}, 6},    {1, {16, 16, 8, 0, 1, 16}, 6},
+        {1, {16, 16, 8, 8, 8, 0}, 7},     {1, {16, 16, 8, 8, 8, 17}, 7},
+        {3, {16, 16, 257, 4097, 4097, 16}, 4},
+    };
+    refused(0, &right, 1);
+    for (size_t i = 0; i < sizeof cases / sizeof cases[0]; i++)
+        refused(cases[i].instance, &cases[i].lengths, cases[i].number);
+}
+
+/* Lengths whose low 32 bits would do: they are refused as what they are. */
+static void lengths_above_32_bits(void)
+{
+    const size_t over = (size_t)1 << 32;
+    uint8_t out[16] = {0}, tag[16] = {0};
+    const uint8_t *much = mmap(NULL, over + 16, PROT_READ, MAP_PRIVATE | MAP_ANONYMOUS | MAP_NORESERVE, -1, 0);
+    check(much != MAP_FAILED);
+    if (much == MAP_FAILED)
+        return;
+    check(isap_seal(1, much, over + 16, much, 16, much, 0, much, 8, out, 8, tag, 16) == ISAP_BAD_KEY);
+    check(isap_seal(1, much, 16, much, over + 16, much, 0, much, 8, out, 8, tag, 16) == ISAP_BAD_NONCE);
+    check(isap_seal(1, much, 16, much, 16, much, over, much, 8, out, 8, tag, 16) == ISAP_LONG_ASSOC);
+    check(isap_seal(1, much, 16, much, 16, much, 0, much, over + 8, out, 8, tag, 16) == ISAP_LONG_TEXT);
+    check(isap_open(1, much, 16, much, 16, much, 0, much, 8, much, over + 16, out, 8) == ISAP_BAD_TAG);
+    check(isap_open(1, much, 16, much, 16, much, over + 1, much, over, much, 16, out, 8) == ISAP_LONG_ASSOC);
+    munmap((void *)(uintptr_t)much, over + 16);
+}
+
+static void answers(uint64_t answer, uint32_t number, uint32_t rounds)
+{
+    check(isap_number(answer) == number && isap_rounds(answer) == rounds);
+}
+
+/* Planned, sealed, opened, and opened with a wrong tag: numbers, rounds, bytes. */
+static void rounds_of(uint32_t instance, size_t assoc, size_t text, uint32_t verify, uint32_t total)
+{
+    static uint8_t plain[ISAP_TEXT_MAX];
+    const struct lengths lengths = {16, 16, assoc, text, text, 16};
+    answers(isap_plan_verify(instance, (uint32_t)assoc, (uint32_t)text), ISAP_ENDED_WELL, verify);
+    answers(isap_plan_total(instance, (uint32_t)assoc, (uint32_t)text), ISAP_ENDED_WELL, total);
+    errno = ERANGE;
+    lend_all(&call, instance, &lengths);
+    memcpy(plain, call.text.at, text);
+    answers(seal(&call), ISAP_ENDED_WELL, total);
+    check(inputs_unchanged(&call) && guards_unchanged(&call.out) && guards_unchanged(&call.tag));
+    check(!unchanged(&call.tag) && (text == 0 || !unchanged(&call.out)));
+    lend_bytes(&call.text, call.out.at, text);
+    remember(&call.tag);
+    lend(&call.out, text);
+    answers(open_sealed(&call), ISAP_ENDED_WELL, total);
+    check(memcmp(call.out.at, plain, text) == 0);
+    check(inputs_unchanged(&call) && guards_unchanged(&call.out) && unchanged(&call.tag));
+    damage(&call.tag);
+    lend(&call.out, text);
+    answers(open_sealed(&call), ISAP_WRONG_TAG, verify);
+    check(inputs_unchanged(&call) && unchanged(&call.out) && unchanged(&call.tag));
+    check(errno == ERANGE);
+}
+
+/* 'Round counts to check'. */
+static void document_01_table(void)
+{
+    static const uint32_t table[][5] = {
+        {1, 0, 0, 199, 199},         {1, 0, 7, 199, 356},  {1, 1, 8, 211, 368},   {1, 0, 9, 211, 374},     {2, 0, 0, 1596, 1596},
+        {2, 256, 4096, 8124, 15816}, {3, 17, 17, 207, 358}, {3, 18, 18, 239, 390}, {4, 0, 0, 1628, 1628}, {4, 256, 4096, 6448, 10732},
+    };
+    for (size_t i = 0; i < sizeof table / sizeof table[0]; i++)
+        rounds_of(table[i][0], table[i][1], table[i][2], table[i][3], table[i][4]);
+}
+
+static void plans_refused(void)
+{
+    static const uint32_t cases[][4] = {
+        {0, 0, 0, 1}, {5, 257, 4097, 1}, {1, 257, 0, 4}, {2, 0, 4097, 5}, {3, 257, 4097, 4}, {4, UINT32_MAX, 0, 4}, {4, 0, UINT32_MAX, 5},
+    };
+    for (size_t i = 0; i < sizeof cases / sizeof cases[0]; i++) {
+        check(isap_plan_verify(cases[i][0], cases[i][1], cases[i][2]) == cases[i][3]);
+        check(isap_plan_total(cases[i][0], cases[i][1], cases[i][2]) == cases[i][3]);
+    }
+}
+
+int main(void)
+{
+    refusals_in_order();
+    refusals_alone();
+    lengths_above_32_bits();
+    document_01_table();
+    plans_refused();
+    return checks_ended("numbers");
+}
