@@ -3,6 +3,7 @@
 
 mod ascon;
 mod calls;
+mod cases;
 mod instances;
 mod keccak;
 mod known;
@@ -16,7 +17,7 @@ mod threads;
 
 use std::io::Write;
 
-const USAGE: &str = "usage: second permutations states|answers, or second plan rows|many requests|lines";
+const USAGE: &str = "usage: second permutations states|answers, plan rows|many requests|lines, cases file|summary, or known FOLDER";
 
 /// The report on the known answers in a folder; where one is missed it goes to the error output and the program fails.
 fn known_answers(folder: &str) -> String {
@@ -38,6 +39,8 @@ fn main() {
         ["plan", "rows", "lines"] => plan::rows_lines().into_bytes(),
         ["plan", "many", "requests"] => plan::many_requests(),
         ["plan", "many", "lines"] => plan::many_lines().into_bytes(),
+        ["cases", "file"] => cases::file(),
+        ["cases", "summary"] => cases::summary().into_bytes(),
         ["known", folder] => known_answers(folder).into_bytes(),
         _ => {
             eprintln!("{USAGE}");
