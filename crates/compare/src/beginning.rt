@@ -1,11 +1,11 @@
 // A beginning as the case file has it: what is lent, the number and the record that it must hand out.
 use crate::filling::Room;
-use crate::filling::room;
+use crate::filling::filled;
 use crate::jobs;
 use crate::jobs::Went;
 use crate::reading;
 use crate::records::same_record;
-use crate::strings::up_to;
+use crate::strings::first;
 use crate::verdict;
 use crate::verdict::NUMBER;
 use crate::verdict::RECORD;
@@ -28,20 +28,20 @@ fn begin(direction: u32, instance: u32, key: &[u8], nonce: &[u8], tag: &[u8], a:
 fn begun(direction: u32, instance: u32, room: Room) -> Begun {
     let key = room.key;
     let nonce = room.nonce;
-    let k = up_to(reading::byte(), 32);
-    let n = up_to(reading::byte(), 32);
-    let t = up_to(reading::byte(), 32);
+    let k = reading::byte();
+    let n = reading::byte();
+    let t = reading::byte();
     let a = reading::four();
     let m = reading::four();
     let tag = lent_tag();
-    begin(direction, instance, &key[..k], &nonce[..n], &tag[..t], a, m)
+    begin(direction, instance, first(&key, k), first(&nonce, n), first(&tag, t), a, m)
 }
 
 // A beginning, and its slices if the case has any.
 pub fn case(sliced: bool) -> Went {
     let direction = reading::byte();
     let instance = reading::four();
-    let room = room(reading::eight());
+    let room = filled(reading::eight());
     let begun = begun(direction, instance, room);
     let number = reading::byte();
     let mut bytes = [0u8; 184];

@@ -33,7 +33,7 @@ pub struct Room {
 }
 
 // One sequence fills all buffers in order: from the seed on, a step and then its lowest byte.
-pub fn room(seed: u64) -> Room {
+pub fn filled(seed: u64) -> Room {
     let mut key = [0u8; 32];
     let mut nonce = [0u8; 32];
     let mut assoc = [0u8; 512];

@@ -34,7 +34,7 @@ fn sliced(went: Went) -> Outcome {
     }
 }
 
-fn outcome(kind: u32) -> Outcome {
+fn case_of(kind: u32) -> Outcome {
     if kind == reports::MESSAGE {
         return unsliced(messages::case());
     }
@@ -59,7 +59,7 @@ fn run() -> Tally {
         if !reports::known(kind) {
             return tally;
         }
-        let shown = outcome(kind);
+        let shown = case_of(kind);
         let verdict = shown.verdict;
         tally = reports::counted(tally, kind, verdict, shown.slices);
         turns -= 1;

@@ -1,12 +1,13 @@
 // Messages: sealed (call 1), opened again (2), and opened with one thing damaged (3).
-ghost use Prim.Native.Nat.{_≤_};
 use crate::filling::Room;
 use crate::filling::checksum;
-use crate::filling::room;
+use crate::filling::filled;
 use crate::reading;
 use crate::strings::damage_if;
+use crate::strings::first;
+use crate::strings::last_eight;
 use crate::strings::same;
-use crate::strings::up_to;
+use crate::strings::within;
 use crate::verdict;
 use crate::verdict::OUTPUT;
 use crate::verdict::Said;
@@ -46,7 +47,7 @@ fn byte_of(n: u32) -> u8 {
     (n % 256) as u8
 }
 
-fn damage() -> Damage {
+fn read_damage() -> Damage {
     let what = reading::byte();
     let at = reading::pair();
     let bits = byte_of(reading::byte());
@@ -63,107 +64,176 @@ fn damage() -> Damage {
 fn as_shown(out: &[u8]) -> bool {
     if out.len() <= 256 {
         let mut shown = [0u8; 256];
-        let n = up_to(out.len() as u32, 256);
-        reading::string_at(&mut shown, 0, n);
-        return same(out, &shown[..n]);
+        reading::string_at(&mut shown, 0, out.len());
+        return same(out, first(&shown, out.len() as u32));
     }
-    let first = eight_bytes();
-    let last = eight_bytes();
+    let start = eight_bytes();
+    let end = eight_bytes();
     let sum = reading::eight();
-    if !same(&out[..8], &first) {
+    if !same(first(out, 8), &start) {
         return false;
     }
-    let start = out.len() - 8;
-    if !same(&out[start..], &last) {
+    if !same(last_eight(out), &end) {
         return false;
     }
     checksum(out) == sum
 }
 
-fn seal(instance: u32, key: &[u8], nonce: &[u8], assoc: &[u8], text: &[u8], out: &mut [u8], tag: [u8; 16], rounds: u32) -> Verdict {
-    let mut made = [170u8; 16];
-    let answer = isap::seal(instance, key, nonce, assoc, text, out, &mut made);
-    let said = Said {
-        number: answer.number,
-        rounds: answer.rounds,
-    };
-    let expected = Said { number: 0, rounds };
-    let answered = verdict::then_said(verdict::no_difference(), said, expected, 1);
-    let tagged = verdict::then(answered, same(&made, &tag), TAG, 1);
-    verdict::then(tagged, as_shown(&out[..]), OUTPUT, 1)
+// A message: what is lent to its calls stands at the start of the room's buffers, the output's length is the text's.
+struct Message {
+    instance: u32,
+    assoc: u32,
+    text: u32,
+    room: Room,
+    tag: [u8; 16],
 }
 
-fn open(instance: u32, key: &[u8], nonce: &[u8], assoc: &[u8], ciphertext: &[u8], tag: &[u8], out: &mut [u8]) -> Said {
-    let answer = isap::open(instance, key, nonce, assoc, ciphertext, tag, out);
+fn seal(m: Message, out: &mut [u8], tag: &mut [u8]) -> Said {
+    let room = m.room;
+    let key = room.key;
+    let nonce = room.nonce;
+    let assoc = room.assoc;
+    let text = room.text;
+    let n = within(&out[..], m.text);
+    let answer = isap::seal(
+        m.instance,
+        first(&key, 16),
+        first(&nonce, 16),
+        first(&assoc, m.assoc),
+        first(&text, m.text),
+        &mut out[..n],
+        tag,
+    );
     Said {
         number: answer.number,
         rounds: answer.rounds,
     }
 }
 
-// The opening with the damage; what it is given stands in `room`, with the ciphertext as its text.
-fn opened_damaged(before: Verdict, instance: u32, room: Room, a: usize, m: usize, tag: [u8; 16], d: Damage) -> Verdict
-    requires { ⌜ (a ≤ 512) × (m ≤ 4200) ⌝ }
-{
-    let mut key = room.key;
-    let mut nonce = room.nonce;
-    let mut assoc = room.assoc;
-    let mut ciphertext = room.text;
-    let mut received = tag;
-    let kept = room.out;
-    let mut out = room.out;
-    damage_if(&mut key, d.what == KEY, d.at, d.bits);
-    damage_if(&mut nonce, d.what == NONCE, d.at, d.bits);
-    damage_if(&mut assoc, d.what == ASSOC, d.at, d.bits);
-    damage_if(&mut ciphertext, d.what == CIPHERTEXT, d.at, d.bits);
-    damage_if(&mut received, d.what == TAG_BITS, d.at, d.bits);
-    let i = if d.what == INSTANCE { d.at } else { instance };
-    let n = if d.what == SHORTER { up_to(d.at, m) } else { m };
-    let said = open(i, &key[..16], &nonce[..16], &assoc[..a], &ciphertext[..n], &received, &mut out[..n]);
-    let expected = Said {
-        number: 8,
-        rounds: d.rounds,
-    };
-    let answered = verdict::then_said(before, said, expected, 3);
-    verdict::then(answered, same(&out, &kept), OUTPUT, 3)
-}
-
-fn opened(before: Verdict, instance: u32, room: Room, ciphertext: [u8; 4200], a: usize, m: usize, tag: [u8; 16], rounds: u32) -> Verdict
-    requires { ⌜ (a ≤ 512) × (m ≤ 4200) ⌝ }
-{
+fn open(m: Message, out: &mut [u8]) -> Said {
+    let room = m.room;
     let key = room.key;
     let nonce = room.nonce;
     let assoc = room.assoc;
     let text = room.text;
+    let tag = m.tag;
+    let n = within(&out[..], m.text);
+    let answer = isap::open(
+        m.instance,
+        first(&key, 16),
+        first(&nonce, 16),
+        first(&assoc, m.assoc),
+        first(&text, m.text),
+        &tag,
+        &mut out[..n],
+    );
+    Said {
+        number: answer.number,
+        rounds: answer.rounds,
+    }
+}
+
+fn sealed(m: Message, out: &mut [u8], rounds: u32) -> Verdict {
+    let mut made = [170u8; 16];
+    let tag = m.tag;
+    let said = seal(m, out, &mut made);
+    let expected = Said { number: 0, rounds };
+    let answered = verdict::then_said(verdict::no_difference(), said, expected, 1);
+    let tagged = verdict::then(answered, same(&made, &tag), TAG, 1);
+    verdict::then(tagged, as_shown(first(&out[..], m.text)), OUTPUT, 1)
+}
+
+// The message as it is received: the ciphertext is its text.
+fn received(m: Message, ciphertext: [u8; 4200]) -> Message {
+    let room = m.room;
+    let key = room.key;
+    let nonce = room.nonce;
+    let assoc = room.assoc;
+    let out = room.out;
+    let tag = m.tag;
+    let lent = Room {
+        key,
+        nonce,
+        assoc,
+        text: ciphertext,
+        out,
+    };
+    Message {
+        instance: m.instance,
+        assoc: m.assoc,
+        text: m.text,
+        room: lent,
+        tag,
+    }
+}
+
+fn opened(before: Verdict, m: Message, text: [u8; 4200], rounds: u32) -> Verdict {
+    let room = m.room;
     let mut out = room.out;
-    let said = open(instance, &key[..16], &nonce[..16], &assoc[..a], &ciphertext[..m], &tag, &mut out[..m]);
+    let said = open(m, &mut out);
     let expected = Said { number: 0, rounds };
     let answered = verdict::then_said(before, said, expected, 2);
-    verdict::then(answered, same(&out[..m], &text[..m]), OUTPUT, 2)
+    verdict::then(answered, same(first(&out, m.text), first(&text, m.text)), OUTPUT, 2)
+}
+
+fn damaged(m: Message, d: Damage) -> Message {
+    let room = m.room;
+    let mut key = room.key;
+    let mut nonce = room.nonce;
+    let mut assoc = room.assoc;
+    let mut text = room.text;
+    let out = room.out;
+    let mut tag = m.tag;
+    damage_if(&mut key, d.what == KEY, d.at, d.bits);
+    damage_if(&mut nonce, d.what == NONCE, d.at, d.bits);
+    damage_if(&mut assoc, d.what == ASSOC, d.at, d.bits);
+    damage_if(&mut text, d.what == CIPHERTEXT, d.at, d.bits);
+    damage_if(&mut tag, d.what == TAG_BITS, d.at, d.bits);
+    let lent = Room {
+        key,
+        nonce,
+        assoc,
+        text,
+        out,
+    };
+    Message {
+        instance: if d.what == INSTANCE { d.at } else { m.instance },
+        assoc: m.assoc,
+        text: if d.what == SHORTER { d.at } else { m.text },
+        room: lent,
+        tag,
+    }
+}
+
+fn opened_damaged(before: Verdict, m: Message, rounds: u32) -> Verdict {
+    let room = m.room;
+    let kept = room.out;
+    let mut out = room.out;
+    let said = open(m, &mut out);
+    let expected = Said { number: 8, rounds };
+    let answered = verdict::then_said(before, said, expected, 3);
+    verdict::then(answered, same(&out, &kept), OUTPUT, 3)
 }
 
 pub fn case() -> Verdict {
     let instance = reading::byte();
-    let a = up_to(reading::pair(), 512);
-    let m = up_to(reading::pair(), 4200);
-    let given = room(reading::eight());
+    let assoc = reading::pair();
+    let text = reading::pair();
+    let room = filled(reading::eight());
     let rounds = reading::pair();
-    let d = damage();
+    let d = read_damage();
     let tag = sixteen_bytes();
-    let key = given.key;
-    let nonce = given.nonce;
-    let assoc = given.assoc;
-    let text = given.text;
-    let out_before = given.out;
-    let mut out = given.out;
-    let sealed = seal(instance, &key[..16], &nonce[..16], &assoc[..a], &text[..m], &mut out[..m], tag, rounds);
-    let back = opened(sealed, instance, given, out, a, m, tag, rounds);
-    let received = Room {
-        key,
-        nonce,
+    let m = Message {
+        instance,
         assoc,
-        text: out,
-        out: out_before,
+        text,
+        room,
+        tag,
     };
-    opened_damaged(back, instance, received, a, m, tag, d)
+    let mut out = room.out;
+    let plain = room.text;
+    let first_call = sealed(m, &mut out, rounds);
+    let r = received(m, out);
+    let second_call = opened(first_call, r, plain, rounds);
+    opened_damaged(second_call, damaged(r, d), d.rounds)
 }

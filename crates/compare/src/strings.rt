@@ -1,5 +1,5 @@
 // Strings compared, cut and damaged.
-ghost use Prim.Native.Nat.{_≤_};
+ghost use Rattle.io.specs.Counts.{Counts};
 
 pub fn same(a: &[u8], b: &[u8]) -> bool {
     if a.len() != b.len() {
@@ -16,12 +16,30 @@ pub fn same(a: &[u8], b: &[u8]) -> bool {
     equal
 }
 
-// A length from the file, kept within a buffer's.
-pub fn up_to(length: u32, most: usize) -> usize
-    ensures { λ r. ⌜ r ≤ most ⌝ }
+// A length from the file, kept within a string's.
+pub fn within(s: &[u8], count: u32) -> usize
+    ensures { λ r. ⌜ Counts r (now (s .entry)) ⌝ }
 {
-    let n = length as usize;
-    if n < most { n } else { most }
+    let n = count as usize;
+    if n < s.len() {
+        return n;
+    }
+    s.len()
+}
+
+// The first bytes of a string, or all that it has.
+pub fn first(s: &[u8], count: u32) -> &[u8] {
+    let n = within(s, count);
+    &s[..n]
+}
+
+// The last eight bytes of a string, or all that it has.
+pub fn last_eight(s: &[u8]) -> &[u8] {
+    if s.len() < 8 {
+        return s;
+    }
+    let start = s.len() - 8;
+    &s[start..]
 }
 
 // The bits of one byte changed, if that is wanted and the string has it.
