@@ -18,7 +18,15 @@ fn lent_tag() -> [u8; 32] {
     tag
 }
 
-fn begin(direction: u32, instance: u32, key: &[u8], nonce: &[u8], tag: &[u8], a: u32, m: u32) -> Begun {
+fn begin(
+    direction: u32,
+    instance: u32,
+    key: &[u8],
+    nonce: &[u8],
+    tag: &[u8],
+    a: u32,
+    m: u32,
+) -> Begun {
     if direction == 1 {
         return isap::begin_seal(instance, key, nonce, a, m);
     }
@@ -34,7 +42,15 @@ fn begun(direction: u32, instance: u32, room: Room) -> Begun {
     let a = reading::four();
     let m = reading::four();
     let tag = lent_tag();
-    begin(direction, instance, first(&key, k), first(&nonce, n), first(&tag, t), a, m)
+    begin(
+        direction,
+        instance,
+        first(&key, k),
+        first(&nonce, n),
+        first(&tag, t),
+        a,
+        m,
+    )
 }
 
 // A beginning, and its slices if the case has any.

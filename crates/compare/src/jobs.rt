@@ -24,8 +24,16 @@ pub struct Went {
 
 // What a slice changes: runs of bytes, each with its place and its length. Numbers of a record's runs are short.
 fn change(s: &mut [u8], short: bool) {
-    let at = if short { reading::byte() } else { reading::pair() };
-    let count = if short { reading::byte() } else { reading::pair() };
+    let at = if short {
+        reading::byte()
+    } else {
+        reading::pair()
+    };
+    let count = if short {
+        reading::byte()
+    } else {
+        reading::pair()
+    };
     reading::string_at(s, at as usize, count as usize);
 }
 
@@ -65,7 +73,13 @@ fn read_cut() -> Cut {
 
 fn slice(job: Job, assoc: &[u8], text: &[u8], out: &mut [u8], cut: Cut) -> Sliced {
     let n = within(&out[..], cut.out);
-    isap::slice(job, first(assoc, cut.assoc), first(text, cut.text), &mut out[..n], cut.budget)
+    isap::slice(
+        job,
+        first(assoc, cut.assoc),
+        first(text, cut.text),
+        &mut out[..n],
+        cut.budget,
+    )
 }
 
 fn said(done: Sliced) -> Said {

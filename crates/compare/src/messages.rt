@@ -16,11 +16,17 @@ use crate::verdict::Verdict;
 
 // What is damaged, as the file numbers it.
 const KEY: u32 = 0;
+
 const NONCE: u32 = 1;
+
 const ASSOC: u32 = 2;
+
 const CIPHERTEXT: u32 = 3;
+
 const TAG_BITS: u32 = 4;
+
 const INSTANCE: u32 = 5;
+
 const SHORTER: u32 = 6;
 
 struct Damage {
@@ -173,7 +179,12 @@ fn opened(before: Verdict, m: Message, text: [u8; 4200], rounds: u32) -> Verdict
     let said = open(m, &mut out);
     let expected = Said { number: 0, rounds };
     let answered = verdict::then_said(before, said, expected, 2);
-    verdict::then(answered, same(first(&out, m.text), first(&text, m.text)), OUTPUT, 2)
+    verdict::then(
+        answered,
+        same(first(&out, m.text), first(&text, m.text)),
+        OUTPUT,
+        2,
+    )
 }
 
 fn damaged(m: Message, d: Damage) -> Message {

@@ -5,14 +5,23 @@ use crate::verdict::Verdict;
 use libc::STDOUT_FILENO;
 
 pub const MESSAGE: u32 = 1;
+
 pub const WHOLE_REFUSED: u32 = 2;
+
 const SEALING: u32 = 3;
+
 const OPENING: u32 = 4;
+
 const WRONG_TAG: u32 = 5;
+
 pub const BEGINNING_REFUSED: u32 = 6;
+
 const STANDING: u32 = 7;
+
 const NOT_STANDING: u32 = 8;
+
 const ENDED: u32 = 9;
+
 const OTHER_LENGTHS: u32 = 10;
 
 // Of so many cases that differ it is said which they are.

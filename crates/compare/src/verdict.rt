@@ -6,10 +6,15 @@ pub struct Verdict {
 }
 
 pub const NOTHING: u32 = 0;
+
 pub const NUMBER: u32 = 1;
+
 pub const ROUNDS: u32 = 2;
+
 pub const OUTPUT: u32 = 3;
+
 pub const TAG: u32 = 4;
+
 pub const RECORD: u32 = 5;
 
 pub fn no_difference() -> Verdict {
