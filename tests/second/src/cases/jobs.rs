@@ -175,10 +175,11 @@ pub fn of_instance(number: u32) -> Written {
             let (assoc, text) = (up_to(&mut numbers, 5 * b), up_to(&mut numbers, 5 * b));
             write_random(&mut file, &mut numbers, kind, number, assoc, text);
         }
-        // The instances with short re-keying are cut after every round in all directions, the others, of ten times as many, in one.
-        if matches!(kind, Kind::Sealing) || instance(number).s_b == 1 {
-            write_every_round(&mut file, &mut numbers, kind, number);
-        }
+    }
+    write_every_round(&mut file, &mut numbers, Kind::Sealing, number);
+    // With a short re-keying an opening has few enough rounds for it too; the other instances would take ten times as much of the file.
+    if instance(number).s_b == 1 {
+        write_every_round(&mut file, &mut numbers, Kind::Opening, number);
     }
     file
 }
