@@ -1,9 +1,9 @@
 //! The known answers: each case is sealed, opened, and opened with a damaged tag, by both ways to a job (`paper` and `steps`), which
-//! must agree with the file and with one another at the end, at the last round but one and at a cut between.
+//! must agree with the file and with one another: stopped on the way, before the last round and at it, which is the whole call.
 
 use crate::calls::{begun, slice, ENDED_WELL, NOT_ENDED, TAG_DIFFERS};
 use crate::instances::instance;
-use crate::paper::{ended, noted, Given, Noted};
+use crate::paper::{noted, Given, Noted};
 use crate::plan::{encryption, verification};
 use crate::record::{OPENING, SEALING};
 use crate::threads::by_instance;
@@ -39,14 +39,16 @@ fn parsed(number: u32, case: &str) -> Known {
     Known { count: count.parse().expect("a count"), given, ciphertext: ciphertext.to_vec(), tag: sixteen(tag) }
 }
 
-/// A job cut in slices at `stops`, and noted along the paper at the same: the last of both, if they agree everywhere.
-fn both_ways(given: &Given, direction: u32, tag: [u8; 16], stops: &[usize]) -> Option<(u32, Noted)> {
+/// A job that takes `rounds` rounds, in slices that stop on the way, before the last round and at it, and the same noted along the paper,
+/// where the last is the whole job: the number and what is left, if the two agree everywhere.
+fn both_ways(case: &Known, given: &Given, direction: u32, tag: [u8; 16], rounds: usize) -> Option<(u32, Noted)> {
+    let cut = case.count * 131 % (rounds - 2);
     let mut out = vec![BLANK; given.text.len()];
-    let along_the_paper = noted(given, direction, tag, &out, stops);
+    let along_the_paper = noted(given, direction, tag, &out, &[cut, cut + 1, rounds - 1, usize::MAX]);
     let (assoc, text) = (given.assoc.len() as u32, given.text.len() as u32);
     let mut record = begun(given.instance, direction, given.key, given.nonce, tag, assoc, text);
     let mut number = NOT_ENDED;
-    for (stop, expected) in stops.iter().zip(&along_the_paper) {
+    for (stop, expected) in [cut, cut + 1, rounds - 1, rounds].iter().zip(along_the_paper) {
         let budget = *stop as u32 - record.done;
         number = slice(&mut record, &given.assoc, &given.text, &mut out, budget).0;
         if record != expected.record || out != expected.out {
@@ -56,27 +58,15 @@ fn both_ways(given: &Given, direction: u32, tag: [u8; 16], stops: &[usize]) -> O
     Some((number, Noted { record, out }))
 }
 
-/// The last round of a job, the one before it, and some rounds on the way that differ from case to case.
-fn stops(case: &Known, last: usize) -> [usize; 4] {
-    let cut = case.count * 131 % (last - 2);
-    [cut, cut + 1, last - 1, last]
-}
-
 fn sealed(case: &Known, rounds: usize) -> bool {
-    let whole = ended(&case.given, SEALING, [0; 16], &vec![BLANK; case.ciphertext.len()]);
-    let Some((number, last)) = both_ways(&case.given, SEALING, [0; 16], &stops(case, rounds)) else {
-        return false;
-    };
-    number == ENDED_WELL && last == whole && last.out == case.ciphertext && last.record.tag == case.tag
+    let left = both_ways(case, &case.given, SEALING, [0; 16], rounds);
+    left.is_some_and(|(number, last)| number == ENDED_WELL && last.out == case.ciphertext && last.record.tag == case.tag)
 }
 
 fn opened(case: &Known, tag: [u8; 16], rounds: usize, expected: u32, out: &[u8]) -> bool {
     let given = Given { text: case.ciphertext.clone(), ..case.given.clone() };
-    let whole = ended(&given, OPENING, tag, &vec![BLANK; out.len()]);
-    let Some((number, last)) = both_ways(&given, OPENING, tag, &stops(case, rounds)) else {
-        return false;
-    };
-    number == expected && last == whole && last.out == out && last.record.done as usize == rounds
+    let left = both_ways(case, &given, OPENING, tag, rounds);
+    left.is_some_and(|(number, last)| number == expected && last.out == out)
 }
 
 /// What fails of a case, by name.
