@@ -2,6 +2,7 @@
 // they answer and leave: numbers, rounds, outputs, tags, whole records. It prints how many cases of each kind there were and how many
 // differ, and names the first that do.
 mod beginning;
+mod calls;
 mod filling;
 mod jobs;
 mod messages;
@@ -9,6 +10,7 @@ mod reading;
 mod records;
 mod refused;
 mod reports;
+mod shown;
 mod strings;
 mod verdict;
 

@@ -1,13 +1,13 @@
 // Messages: sealed (call 1), opened again (2), and opened with one thing damaged (3).
+use crate::calls;
+use crate::calls::Lent;
 use crate::filling::Room;
-use crate::filling::checksum;
 use crate::filling::filled;
 use crate::reading;
-use crate::strings::damage_if;
+use crate::shown::as_shown;
+use crate::strings::damage;
 use crate::strings::first;
-use crate::strings::last_eight;
 use crate::strings::same;
-use crate::strings::within;
 use crate::verdict;
 use crate::verdict::OUTPUT;
 use crate::verdict::Said;
@@ -29,7 +29,7 @@ const INSTANCE: u32 = 5;
 
 const SHORTER: u32 = 6;
 
-struct Damage {
+struct Harm {
     what: u32,
     at: u32,
     bits: u8,
@@ -37,10 +37,11 @@ struct Damage {
     rounds: u32,
 }
 
-fn eight_bytes() -> [u8; 8] {
-    let mut s = [0u8; 8];
-    reading::string(&mut s);
-    s
+// What the calls of a message are lent, and its tag.
+struct Message {
+    lent: Lent,
+    room: Room,
+    tag: [u8; 16],
 }
 
 fn sixteen_bytes() -> [u8; 16] {
@@ -53,12 +54,12 @@ fn byte_of(n: u32) -> u8 {
     (n % 256) as u8
 }
 
-fn read_damage() -> Damage {
+fn read_harm() -> Harm {
     let what = reading::byte();
     let at = reading::pair();
     let bits = byte_of(reading::byte());
     let rounds = reading::pair();
-    Damage {
+    Harm {
         what,
         at,
         bits,
@@ -66,161 +67,121 @@ fn read_damage() -> Damage {
     }
 }
 
-// The ciphertext is what the file shows of it: all, or its first and last eight bytes and its checksum.
-fn as_shown(out: &[u8]) -> bool {
-    if out.len() <= 256 {
-        let mut shown = [0u8; 256];
-        reading::string_at(&mut shown, 0, out.len());
-        return same(out, first(&shown, out.len() as u32));
-    }
-    let start = eight_bytes();
-    let end = eight_bytes();
-    let sum = reading::eight();
-    if !same(first(out, 8), &start) {
-        return false;
-    }
-    if !same(last_eight(out), &end) {
-        return false;
-    }
-    checksum(out) == sum
-}
-
-// A message: what is lent to its calls stands at the start of the room's buffers, the output's length is the text's.
-struct Message {
-    instance: u32,
-    assoc: u32,
-    text: u32,
-    room: Room,
-    tag: [u8; 16],
-}
-
-fn seal(m: Message, out: &mut [u8], tag: &mut [u8]) -> Said {
-    let room = m.room;
-    let key = room.key;
-    let nonce = room.nonce;
-    let assoc = room.assoc;
-    let text = room.text;
-    let n = within(&out[..], m.text);
-    let answer = isap::seal(
-        m.instance,
-        first(&key, 16),
-        first(&nonce, 16),
-        first(&assoc, m.assoc),
-        first(&text, m.text),
-        &mut out[..n],
-        tag,
-    );
-    Said {
-        number: answer.number,
-        rounds: answer.rounds,
-    }
-}
-
-fn open(m: Message, out: &mut [u8]) -> Said {
-    let room = m.room;
-    let key = room.key;
-    let nonce = room.nonce;
-    let assoc = room.assoc;
-    let text = room.text;
-    let tag = m.tag;
-    let n = within(&out[..], m.text);
-    let answer = isap::open(
-        m.instance,
-        first(&key, 16),
-        first(&nonce, 16),
-        first(&assoc, m.assoc),
-        first(&text, m.text),
-        &tag,
-        &mut out[..n],
-    );
-    Said {
-        number: answer.number,
-        rounds: answer.rounds,
+// Key, nonce and tag of 16 bytes, and an output as long as the text.
+fn lent(instance: u32, assoc: u32, text: u32) -> Lent {
+    Lent {
+        instance,
+        key: 16,
+        nonce: 16,
+        assoc,
+        text,
+        out: text,
+        tag: 16,
     }
 }
 
 fn sealed(m: Message, out: &mut [u8], rounds: u32) -> Verdict {
-    let mut made = [170u8; 16];
+    let lent = m.lent;
+    let room = m.room;
     let tag = m.tag;
-    let said = seal(m, out, &mut made);
+    let mut made = [170u8; 16];
+    let said = calls::seal(lent, room, out, &mut made);
     let expected = Said { number: 0, rounds };
     let answered = verdict::then_said(verdict::no_difference(), said, expected, 1);
     let tagged = verdict::then(answered, same(&made, &tag), TAG, 1);
-    verdict::then(tagged, as_shown(first(&out[..], m.text)), OUTPUT, 1)
+    verdict::then(tagged, as_shown(first(&out[..], lent.text)), OUTPUT, 1)
 }
 
 // The message as it is received: the ciphertext is its text.
 fn received(m: Message, ciphertext: [u8; 4200]) -> Message {
-    let room = m.room;
-    let key = room.key;
-    let nonce = room.nonce;
-    let assoc = room.assoc;
-    let out = room.out;
+    let lent = m.lent;
     let tag = m.tag;
-    let lent = Room {
-        key,
-        nonce,
-        assoc,
-        text: ciphertext,
-        out,
-    };
-    Message {
-        instance: m.instance,
-        assoc: m.assoc,
-        text: m.text,
-        room: lent,
-        tag,
-    }
+    let mut room = m.room;
+    room.text = ciphertext;
+    Message { lent, room, tag }
 }
 
 fn opened(before: Verdict, m: Message, text: [u8; 4200], rounds: u32) -> Verdict {
+    let lent = m.lent;
     let room = m.room;
+    let tag = m.tag;
     let mut out = room.out;
-    let said = open(m, &mut out);
+    let said = calls::open(lent, room, &mut out, &tag);
     let expected = Said { number: 0, rounds };
     let answered = verdict::then_said(before, said, expected, 2);
     verdict::then(
         answered,
-        same(first(&out, m.text), first(&text, m.text)),
+        same(first(&out, lent.text), first(&text, lent.text)),
         OUTPUT,
         2,
     )
 }
 
-fn damaged(m: Message, d: Damage) -> Message {
-    let room = m.room;
-    let mut key = room.key;
-    let mut nonce = room.nonce;
-    let mut assoc = room.assoc;
-    let mut text = room.text;
-    let out = room.out;
-    let mut tag = m.tag;
-    damage_if(&mut key, d.what == KEY, d.at, d.bits);
-    damage_if(&mut nonce, d.what == NONCE, d.at, d.bits);
-    damage_if(&mut assoc, d.what == ASSOC, d.at, d.bits);
-    damage_if(&mut text, d.what == CIPHERTEXT, d.at, d.bits);
-    damage_if(&mut tag, d.what == TAG_BITS, d.at, d.bits);
-    let lent = Room {
-        key,
-        nonce,
-        assoc,
-        text,
-        out,
-    };
+fn damaged_room(room: Room, d: Harm) -> Room {
+    let mut r = room;
+    if d.what == KEY {
+        let mut key = r.key;
+        damage(&mut key, d.at, d.bits);
+        r.key = key;
+        return r;
+    }
+    if d.what == NONCE {
+        let mut nonce = r.nonce;
+        damage(&mut nonce, d.at, d.bits);
+        r.nonce = nonce;
+        return r;
+    }
+    if d.what == ASSOC {
+        let mut assoc = r.assoc;
+        damage(&mut assoc, d.at, d.bits);
+        r.assoc = assoc;
+        return r;
+    }
+    if d.what == CIPHERTEXT {
+        let mut text = r.text;
+        damage(&mut text, d.at, d.bits);
+        r.text = text;
+        return r;
+    }
+    r
+}
+
+fn damaged_lent(l: Lent, d: Harm) -> Lent {
+    if d.what == INSTANCE {
+        return lent(d.at, l.assoc, l.text);
+    }
+    if d.what == SHORTER {
+        return lent(l.instance, l.assoc, d.at);
+    }
+    l
+}
+
+fn damaged_tag(received: [u8; 16], d: Harm) -> [u8; 16] {
+    let mut tag = received;
+    if d.what == TAG_BITS {
+        damage(&mut tag, d.at, d.bits);
+    }
+    tag
+}
+
+fn damaged(m: Message, d: Harm) -> Message {
+    let l = m.lent;
+    let r = m.room;
+    let t = m.tag;
     Message {
-        instance: if d.what == INSTANCE { d.at } else { m.instance },
-        assoc: m.assoc,
-        text: if d.what == SHORTER { d.at } else { m.text },
-        room: lent,
-        tag,
+        lent: damaged_lent(l, d),
+        room: damaged_room(r, d),
+        tag: damaged_tag(t, d),
     }
 }
 
 fn opened_damaged(before: Verdict, m: Message, rounds: u32) -> Verdict {
+    let lent = m.lent;
     let room = m.room;
+    let tag = m.tag;
     let kept = room.out;
     let mut out = room.out;
-    let said = open(m, &mut out);
+    let said = calls::open(lent, room, &mut out, &tag);
     let expected = Said { number: 8, rounds };
     let answered = verdict::then_said(before, said, expected, 3);
     verdict::then(answered, same(&out, &kept), OUTPUT, 3)
@@ -232,17 +193,15 @@ pub fn case() -> Verdict {
     let text = reading::pair();
     let room = filled(reading::eight());
     let rounds = reading::pair();
-    let d = read_damage();
+    let d = read_harm();
     let tag = sixteen_bytes();
     let m = Message {
-        instance,
-        assoc,
-        text,
+        lent: lent(instance, assoc, text),
         room,
         tag,
     };
-    let mut out = room.out;
     let plain = room.text;
+    let mut out = room.out;
     let first_call = sealed(m, &mut out, rounds);
     let r = received(m, out);
     let second_call = opened(first_call, r, plain, rounds);

@@ -42,10 +42,10 @@ pub fn last_eight(s: &[u8]) -> &[u8] {
     &s[start..]
 }
 
-// The bits of one byte changed, if that is wanted and the string has it.
-pub fn damage_if(s: &mut [u8], wanted: bool, byte: u32, bits: u8) {
+// The bits of one byte changed, if the string has it.
+pub fn damage(s: &mut [u8], byte: u32, bits: u8) {
     let at = byte as usize;
-    if wanted && at < s.len() {
+    if at < s.len() {
         s[at] = s[at] ^ bits;
     }
 }
