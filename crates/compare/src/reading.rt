@@ -1,5 +1,5 @@
 // The case file's numbers, the most significant byte first, and its strings. Where the input has ended, a number is zero.
-ghost use Prim.Native.Nat.{_≤_, _<_};
+ghost use Prim.Native.Nat.{_<_};
 use libc::STDIN_FILENO;
 
 fn wide(b: u8) -> u32

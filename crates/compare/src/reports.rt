@@ -1,5 +1,4 @@
 // The cases counted by kind, and what is printed of them.
-ghost use Prim.Native.Nat.{_≤_, _<_};
 use crate::verdict;
 use crate::verdict::Verdict;
 use libc::STDOUT_FILENO;

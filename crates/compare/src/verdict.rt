@@ -1,7 +1,7 @@
 // What a case shows: the first thing that differs, and in which of its calls.
 pub struct Verdict {
     pub what: u32,
-    // counted from 1
+    // counted from 1; 0 is a beginning
     pub call: u32,
 }
 
