@@ -1,18 +1,54 @@
-//! The four instances (document 001, Table 2.2).
+//! The four instances (document 001, Tables 2.2 and 2.3).
 
-/// Block length in bytes, and the rounds of the calls pH, pB, pE and pK.
+use crate::{ascon, keccak};
+
+/// Bytes of a state and of a block, the rounds of the calls pH, pB, pE and pK, and the permutation.
 pub struct Instance {
+    pub bytes: usize,
     pub block: usize,
     pub s_h: usize,
     pub s_b: usize,
     pub s_e: usize,
     pub s_k: usize,
+    most: usize,
+    round: fn(&mut [u8], usize),
+}
+
+impl Instance {
+    const fn of_ascon(s_b: usize, s_e: usize) -> Self {
+        let (bytes, block) = (ascon::BYTES, 64 / 8);
+        Instance { bytes, block, s_h: 12, s_b, s_e, s_k: 12, most: ascon::MOST_ROUNDS, round: ascon::round }
+    }
+
+    const fn of_keccak(s_h: usize, s_b: usize, s_e: usize, s_k: usize) -> Self {
+        let (bytes, block) = (keccak::BYTES, 144 / 8);
+        Instance { bytes, block, s_h, s_b, s_e, s_k, most: keccak::MOST_ROUNDS, round: keccak::round }
+    }
+
+    /// Round `k` of a call of `rounds` rounds, which are the last ones that the permutation has.
+    pub fn round(&self, state: &mut [u8], rounds: usize, k: usize) {
+        (self.round)(state, self.most - rounds + k);
+    }
+
+    /// An initial value: flag 1 for the MAC, 2 for its re-keying, 3 for that of encryption.
+    pub fn initial_value(&self, flag: u8) -> Vec<u8> {
+        let numbers = [128, 8 * self.block, 1, self.s_h, self.s_b, self.s_e, self.s_k];
+        let mut value = vec![flag];
+        value.extend(numbers.map(|number| number as u8));
+        value.resize(self.bytes - 16, 0);
+        value
+    }
 }
 
 /// ISAP-A-128a, ISAP-A-128, ISAP-K-128a, ISAP-K-128: instances 1 to 4.
-pub const INSTANCES: [Instance; 4] = [
-    Instance { block: 64 / 8, s_h: 12, s_b: 1, s_e: 6, s_k: 12 },
-    Instance { block: 64 / 8, s_h: 12, s_b: 12, s_e: 12, s_k: 12 },
-    Instance { block: 144 / 8, s_h: 16, s_b: 1, s_e: 8, s_k: 8 },
-    Instance { block: 144 / 8, s_h: 20, s_b: 12, s_e: 12, s_k: 12 },
+static INSTANCES: [Instance; 4] = [
+    Instance::of_ascon(1, 6),
+    Instance::of_ascon(12, 12),
+    Instance::of_keccak(16, 1, 8, 8),
+    Instance::of_keccak(20, 12, 12, 12),
 ];
+
+/// Instance `number`, which is 1 to 4.
+pub fn instance(number: u32) -> &'static Instance {
+    &INSTANCES[number as usize - 1]
+}

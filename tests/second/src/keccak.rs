@@ -1,11 +1,15 @@
-//! Keccak-p[400] bit by bit (FIPS 202, sections 3.2 and 3.3; document 001, Appendix A).
+//! Keccak-p[400] (FIPS 202, sections 3.2 and 3.3; document 001, Appendix A): theta, rho and pi bit by bit. They are linear, so a round
+//! looks up what they make of each byte of the state and xors it together; chi and iota work on the bytes.
+
+use std::sync::OnceLock;
 
 pub const BYTES: usize = 50;
+pub const MOST_ROUNDS: usize = 20;
 const WIDTH: usize = 16;
-const MOST_ROUNDS: usize = 20;
 
 /// A[x][y][z].
 type Cube = [[[bool; WIDTH]; 5]; 5];
+type Bytes = [u8; BYTES];
 
 fn each(mut bit: impl FnMut(usize, usize, usize) -> bool) -> Cube {
     let mut cube = [[[false; WIDTH]; 5]; 5];
@@ -41,8 +45,40 @@ fn pi(a: Cube) -> Cube {
     each(|x, y, z| a[(x + 3 * y) % 5][x][z])
 }
 
-fn chi(a: Cube) -> Cube {
-    each(|x, y, z| a[x][y][z] ^ (!a[(x + 1) % 5][y][z] & a[(x + 2) % 5][y][z]))
+/// The number of a bit in the string.
+fn place(x: usize, y: usize, z: usize) -> usize {
+    WIDTH * (5 * y + x) + z
+}
+
+/// What theta, rho and pi make of a state in which bit `number` alone is one.
+fn image(number: usize) -> Bytes {
+    let a = pi(rho(theta(each(|x, y, z| place(x, y, z) == number))));
+    let mut bytes = [0; BYTES];
+    each(|x, y, z| {
+        bytes[place(x, y, z) / 8] |= (a[x][y][z] as u8) << (place(x, y, z) % 8);
+        false
+    });
+    bytes
+}
+
+fn xor_into(a: &mut Bytes, b: &Bytes) {
+    a.iter_mut().zip(b).for_each(|(a, b)| *a ^= b);
+}
+
+/// For each byte of the state and each value of it what theta, rho and pi make of it alone, all other bytes being zero.
+fn images() -> &'static Vec<[Bytes; 256]> {
+    static IMAGES: OnceLock<Vec<[Bytes; 256]>> = OnceLock::new();
+    IMAGES.get_or_init(|| {
+        let mut all = vec![[[0; BYTES]; 256]; BYTES];
+        for (i, of_byte) in all.iter_mut().enumerate() {
+            for value in 1..256usize {
+                let lowest = value.trailing_zeros() as usize;
+                of_byte[value] = of_byte[value & (value - 1)];
+                xor_into(&mut of_byte[value], &image(8 * i + lowest));
+            }
+        }
+        all
+    })
 }
 
 /// rc(t), Algorithm 5.
@@ -58,23 +94,34 @@ fn rc(t: usize) -> bool {
     register[0]
 }
 
-fn iota(mut a: Cube, index: usize) -> Cube {
-    for j in 0..=4 {
-        a[0][0][(1 << j) - 1] ^= rc(j + 7 * index);
-    }
-    a
+/// The two bytes of lane (0, 0) into which iota of round `index` goes.
+fn constants() -> &'static [[u8; 2]; MOST_ROUNDS] {
+    static CONSTANTS: OnceLock<[[u8; 2]; MOST_ROUNDS]> = OnceLock::new();
+    CONSTANTS.get_or_init(|| {
+        std::array::from_fn(|index| {
+            let lane = (0..=4).fold(0u16, |lane, j| lane | (rc(j + 7 * index) as u16) << ((1 << j) - 1));
+            lane.to_le_bytes()
+        })
+    })
 }
 
-/// The last `rounds` of the twenty rounds, on the first 50 bytes.
-pub fn permute(state: &mut [u8], rounds: usize) {
-    let place = |x: usize, y: usize, z: usize| WIDTH * (5 * y + x) + z;
-    let mut a = each(|x, y, z| state[place(x, y, z) / 8] >> (place(x, y, z) % 8) & 1 == 1);
-    for index in MOST_ROUNDS - rounds..MOST_ROUNDS {
-        a = iota(chi(pi(rho(theta(a)))), index);
+/// A row has ten bytes, and the next lane's byte stands two further on.
+fn chi(a: &Bytes, new: &mut [u8]) {
+    for (row, new) in a.chunks(10).zip(new.chunks_mut(10)) {
+        for i in 0..10 {
+            new[i] = row[i] ^ (!row[(i + 2) % 10] & row[(i + 4) % 10]);
+        }
     }
-    state[..BYTES].fill(0);
-    each(|x, y, z| {
-        state[place(x, y, z) / 8] |= (a[x][y][z] as u8) << (place(x, y, z) % 8);
-        a[x][y][z]
-    });
+}
+
+/// Round `index` of the twenty, on the first 50 bytes.
+pub fn round(state: &mut [u8], index: usize) {
+    let mut mixed = [0; BYTES];
+    for (of_byte, value) in images().iter().zip(state.iter()) {
+        xor_into(&mut mixed, &of_byte[*value as usize]);
+    }
+    chi(&mixed, &mut state[..BYTES]);
+    for (byte, constant) in state.iter_mut().zip(constants()[index]) {
+        *byte ^= constant;
+    }
 }

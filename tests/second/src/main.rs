@@ -2,15 +2,32 @@
 //! Slow and plain on purpose. It writes the inputs and the answers that the library's test programs are held to.
 
 mod ascon;
+mod calls;
+mod cases;
 mod instances;
 mod keccak;
+mod known;
 mod numbers;
+mod paper;
 mod permutations;
 mod plan;
+mod record;
+mod steps;
+mod threads;
 
 use std::io::Write;
 
-const USAGE: &str = "usage: second permutations states|answers, or second plan rows|many requests|lines";
+const USAGE: &str = "usage: second permutations states|answers, plan rows|many requests|lines, cases file|summary, or known FOLDER";
+
+/// The report on the known answers in a folder; where one is missed it goes to the error output and the program fails.
+fn known_answers(folder: &str) -> String {
+    let (report, failed) = known::report(folder);
+    if failed {
+        eprint!("{report}");
+        std::process::exit(1);
+    }
+    report
+}
 
 fn main() {
     let args: Vec<String> = std::env::args().skip(1).collect();
@@ -22,6 +39,9 @@ fn main() {
         ["plan", "rows", "lines"] => plan::rows_lines().into_bytes(),
         ["plan", "many", "requests"] => plan::many_requests(),
         ["plan", "many", "lines"] => plan::many_lines().into_bytes(),
+        ["cases", "file"] => cases::file(),
+        ["cases", "summary"] => cases::summary().into_bytes(),
+        ["known", folder] => known_answers(folder).into_bytes(),
         _ => {
             eprintln!("{USAGE}");
             std::process::exit(2);

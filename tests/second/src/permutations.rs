@@ -28,9 +28,10 @@ pub fn states() -> Vec<u8> {
     all
 }
 
-fn line(name: &str, rounds: usize, permute: fn(&mut [u8], usize), state: &[u8]) -> String {
+/// The last `rounds` of a permutation's `most` rounds.
+fn line(name: &str, most: usize, rounds: usize, round: fn(&mut [u8], usize), state: &[u8]) -> String {
     let mut state = state.to_vec();
-    permute(&mut state, rounds);
+    (most - rounds..most).for_each(|index| round(&mut state, index));
     let hex: String = state.iter().map(|byte| format!("{byte:02x}")).collect();
     format!("{name} {rounds} {hex}\n")
 }
@@ -40,10 +41,10 @@ pub fn answers() -> String {
     let mut lines = String::new();
     for state in states().chunks(STATE) {
         for rounds in [12, 8, 6, 1] {
-            lines += &line("ascon-p", rounds, ascon::permute, state);
+            lines += &line("ascon-p", ascon::MOST_ROUNDS, rounds, ascon::round, state);
         }
         for rounds in [20, 16, 12, 8, 1] {
-            lines += &line("keccak-p", rounds, keccak::permute, state);
+            lines += &line("keccak-p", keccak::MOST_ROUNDS, rounds, keccak::round, state);
         }
     }
     lines

@@ -1,6 +1,6 @@
 //! The planning program's requests and lines. Rounds are counted call by call along the algorithms, not by the formulas.
 
-use crate::instances::{Instance, INSTANCES};
+use crate::instances::{instance, Instance};
 use crate::numbers::Numbers;
 
 const HEADING: &str = "instance assoc text verify total\n";
@@ -53,7 +53,7 @@ fn line(request: Request) -> String {
     } else if m > MOST_TEXT {
         "refused 5".to_string()
     } else {
-        let instance = &INSTANCES[number - 1];
+        let instance = instance(number as u32);
         let verify = verification(instance, a, m);
         format!("{} {}", verify, verify + encryption(instance, m))
     };

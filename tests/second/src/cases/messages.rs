@@ -1,0 +1,140 @@
+//! Messages: sealed, opened again, and opened with one thing damaged.
+//!
+//! A case: instance (1 byte), lengths of associated data and text (2 each), seed (8), rounds of the sealing and of the opening (2), the
+//! damage: what (1), where (2), which bits (1), rounds of the opening that it ends (2); tag (16), and the ciphertext: whole up to 256
+//! bytes, of a longer one the first 8, the last 8 and the checksum (8).
+
+use super::filling::{checksum, Room};
+use super::{one_of, up_to, Kind, Written};
+use crate::instances::instance;
+use crate::numbers::Numbers;
+use crate::paper::{ended, Given};
+use crate::record::{OPENING, SEALING, WELL, WRONG_TAG};
+
+const MOST_ASSOC: usize = 256;
+const MOST_TEXT: usize = 4096;
+const SHOWN_WHOLE: usize = 256;
+
+/// One bit of the key, of the nonce, of the associated data, of the ciphertext, of the tag; another instance; a shorter ciphertext.
+#[derive(Clone, Copy, PartialEq)]
+enum What {
+    Key,
+    Nonce,
+    Assoc,
+    Ciphertext,
+    Tag,
+    Instance,
+    Shorter,
+}
+
+#[derive(Clone, Copy)]
+struct Damage {
+    what: What,
+    /// the byte that is damaged; the other instance; the shorter length
+    at: usize,
+    bits: u8,
+}
+
+pub struct Message {
+    instance: u32,
+    assoc: usize,
+    text: usize,
+    seed: u64,
+    damage: Damage,
+}
+
+/// Whether a length is within 1 of a multiple of the block, or the largest.
+fn near_a_block(number: u32, length: usize, most: usize) -> bool {
+    let block = instance(number).block;
+    (length + 1) % block <= 2 || length == most
+}
+
+fn damage(numbers: &mut Numbers, number: u32, assoc: usize, text: usize) -> Damage {
+    let mut whats = vec![What::Key, What::Nonce, What::Tag, What::Instance];
+    if assoc > 0 {
+        whats.push(What::Assoc);
+    }
+    if text > 0 {
+        whats.extend([What::Ciphertext, What::Shorter]);
+    }
+    let what = one_of(numbers, &whats);
+    let bits = 1 << up_to(numbers, 7);
+    let at = match what {
+        What::Key | What::Nonce | What::Tag => up_to(numbers, 15),
+        What::Assoc => up_to(numbers, assoc - 1),
+        What::Ciphertext | What::Shorter => up_to(numbers, text - 1),
+        What::Instance => (number as usize + up_to(numbers, 2)) % 4 + 1,
+    };
+    Damage { what, at, bits }
+}
+
+/// Every text up to 256 bytes and every longer one near a block's multiple; associated data in turn near a multiple and of any length.
+pub fn planned(number: u32) -> Vec<Message> {
+    let mut numbers = Numbers::new(100 + number as u64);
+    let edges: Vec<usize> = (0..=MOST_ASSOC).filter(|length| near_a_block(number, *length, MOST_ASSOC)).collect();
+    let texts = (0..=MOST_TEXT).filter(|text| *text <= SHOWN_WHOLE || near_a_block(number, *text, MOST_TEXT));
+    let planned = texts.enumerate().map(|(i, text)| {
+        let assoc = if i % 2 == 0 { edges[i / 2 % edges.len()] } else { up_to(&mut numbers, MOST_ASSOC) };
+        let seed = numbers.next();
+        let damage = damage(&mut numbers, number, assoc, text);
+        Message { instance: number, assoc, text, seed, damage }
+    });
+    planned.collect()
+}
+
+/// What the opening is given, with the damage.
+fn damaged(sealed: &Given, tag: [u8; 16], damage: Damage) -> (Given, [u8; 16]) {
+    let (mut given, mut tag) = (sealed.clone(), tag);
+    match damage.what {
+        What::Key => given.key[damage.at] ^= damage.bits,
+        What::Nonce => given.nonce[damage.at] ^= damage.bits,
+        What::Assoc => given.assoc[damage.at] ^= damage.bits,
+        What::Ciphertext => given.text[damage.at] ^= damage.bits,
+        What::Tag => tag[damage.at] ^= damage.bits,
+        What::Instance => given.instance = damage.at as u32,
+        What::Shorter => given.text.truncate(damage.at),
+    }
+    (given, tag)
+}
+
+fn show(file: &mut Written, out: &[u8]) {
+    if out.len() <= SHOWN_WHOLE {
+        file.bytes.extend(out);
+        return;
+    }
+    file.bytes.extend(&out[..8]);
+    file.bytes.extend(&out[out.len() - 8..]);
+    file.eight(checksum(out));
+}
+
+fn write(file: &mut Written, m: &Message) {
+    let room = Room::of(m.seed);
+    let (assoc, text) = (room.assoc[..m.assoc].to_vec(), room.text[..m.text].to_vec());
+    let given = Given { instance: m.instance, key: room.key16(), nonce: room.nonce16(), assoc, text };
+    let sealed = ended(&given, SEALING, [0; 16], &given.text);
+    let tag = sealed.record.tag;
+    let received = Given { text: sealed.out.clone(), ..given.clone() };
+    let opened = ended(&received, OPENING, tag, &sealed.out);
+    assert!(opened.record.ending == WELL && opened.out == given.text, "a sealed message opens to itself");
+    let (other, other_tag) = damaged(&received, tag, m.damage);
+    let refused = ended(&other, OPENING, other_tag, &other.text);
+    assert!(refused.record.ending == WRONG_TAG, "a damaged message is refused");
+    file.begin(Kind::Message);
+    file.byte(m.instance);
+    file.pair(m.assoc);
+    file.pair(m.text);
+    file.eight(m.seed);
+    file.pair(sealed.record.done as usize);
+    file.byte(m.damage.what as u32);
+    file.pair(m.damage.at);
+    file.byte(m.damage.bits as u32);
+    file.pair(refused.record.done as usize);
+    file.bytes.extend(tag);
+    show(file, &sealed.out);
+}
+
+pub fn of_instance(number: u32) -> Written {
+    let mut file = Written::default();
+    planned(number).iter().for_each(|message| write(&mut file, message));
+    file
+}
