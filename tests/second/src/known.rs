@@ -20,9 +20,13 @@ struct Known {
     tag: [u8; 16],
 }
 
-fn unhex(digits: &str) -> Vec<u8> {
+pub fn unhex(digits: &str) -> Vec<u8> {
     let pairs = digits.as_bytes().chunks(2).map(|pair| std::str::from_utf8(pair).expect("ASCII digits"));
     pairs.map(|pair| u8::from_str_radix(pair, 16).expect("two hex digits")).collect()
+}
+
+pub fn sixteen(bytes: &[u8]) -> [u8; 16] {
+    bytes.try_into().expect("16 bytes")
 }
 
 /// The lines of a case, `NAME = VALUE`, in the order in which the files have them.
@@ -31,7 +35,6 @@ fn parsed(number: u32, case: &str) -> Known {
     let [count, key, nonce, text, assoc, sealed] = values[..] else {
         panic!("six lines in a case");
     };
-    let sixteen = |bytes: &[u8]| -> [u8; 16] { bytes.try_into().expect("16 bytes") };
     let (key, nonce) = (sixteen(&unhex(key)), sixteen(&unhex(nonce)));
     let sealed = unhex(sealed);
     let (ciphertext, tag) = sealed.split_at(sealed.len() - 16);

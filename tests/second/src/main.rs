@@ -12,16 +12,16 @@ mod paper;
 mod permutations;
 mod plan;
 mod record;
+mod sealed;
 mod steps;
 mod threads;
 
 use std::io::Write;
 
-const USAGE: &str = "usage: second permutations states|answers, plan rows|many requests|lines, cases file|summary, or known FOLDER";
+const USAGE: &str = "usage: second permutations states|answers, plan rows|many requests|lines, cases file|summary, known FOLDER, or sealed FILE";
 
-/// The report on the known answers in a folder; where one is missed it goes to the error output and the program fails.
-fn known_answers(folder: &str) -> String {
-    let (report, failed) = known::report(folder);
+/// A report; where it tells a failure it goes to the error output and the program fails.
+fn passed((report, failed): (String, bool)) -> String {
     if failed {
         eprint!("{report}");
         std::process::exit(1);
@@ -41,7 +41,8 @@ fn main() {
         ["plan", "many", "lines"] => plan::many_lines().into_bytes(),
         ["cases", "file"] => cases::file(),
         ["cases", "summary"] => cases::summary().into_bytes(),
-        ["known", folder] => known_answers(folder).into_bytes(),
+        ["known", folder] => passed(known::report(folder)).into_bytes(),
+        ["sealed", file] => passed(sealed::report(file)).into_bytes(),
         _ => {
             eprintln!("{USAGE}");
             std::process::exit(2);
