@@ -7,11 +7,12 @@ use Prim.Native.Nat.{ℕ, _+_, _-_, _*_, _≤_, _<_}
 use native.Mathlib.Omega.{arith}
 use lib.ListN.{length}
 use Rattle.mode.specs.Instances.{paramsOf}
+use Rattle.plan.specs.declared.places.Place.{Place}
 use Rattle.plan.specs.Planned.{kindOf, shapeOf}
 use Rattle.plan.specs.Kinds.{verify-most, encrypt-most}
 use Rattle.rows.specs.Gone.{many, CanGo, Gone}
 use Rattle.isap.specs.declared.Job.{Job}
-use Rattle.isap.specs.Records.{sealingOf, totalOf}
+use Rattle.isap.specs.Records.{sealingOf, totalOf, changed}
 use Rattle.isap.specs.Turns.{At}
 use Rattle.isap.specs.Sofar.{Fresh, Turned}
 use Rattle.isap.specs.Rows.{kindAt, roundsAt, Row, Rows, row-upto, row-turned}
@@ -64,53 +65,22 @@ module _ (j : Job) (assoc text out : List ℕ) (h : Fresh j assoc text out) (cal
           outLong = h .outLong ∙ sym (h .textLong);
         }
 
-    module _ (rounds : ℕ) (r : (a m : ℕ) → rounds ≡ shapeOf (paramsOf (j .instance)) a m kind .rounds) where
+    module _ (rounds : ℕ) (rs : (a m : ℕ) → rounds ≡ shapeOf (paramsOf (j .instance)) a m kind .rounds) where
       pub product-fits : calls * rounds ≤ 15816
-      product-fits = omega (arith, done-fits, ap (λ (n : ℕ). calls * n) (rounds-is j 0 kind k rounds r))
+      product-fits = omega (arith, done-fits, ap (λ (n : ℕ). calls * n) (rounds-is j 0 kind k rounds rs))
 
       pub sum-fits : j .done + calls * rounds ≤ 15816
-      sum-fits = omega (arith, done-fits, ap (λ (n : ℕ). calls * n) (rounds-is j 0 kind k rounds r))
-
-      -- the record that the code builds
-      built : (done : ℕ) → List ℕ → Job
-      built done state =
-          record {
-            instance = j .instance;
-            direction = j .direction;
-            assoc = j .assoc;
-            text = j .text;
-            key = j .key;
-            nonce = j .nonce;
-            tag = j .tag;
-            done = done;
-            place = record { part = j .place .part; call = j .place .call + calls; round = 0 };
-            ending = j .ending;
-            state = state;
-            session = j .session;
-          }
+      sum-fits = omega (arith, done-fits, ap (λ (n : ℕ). calls * n) (rounds-is j 0 kind k rounds rs))
 
       pub gone-on : (state out′ : List ℕ)
           → Gone (j .instance) kind (j .place .call) calls (sealingOf (j .direction)) (j .nonce) assoc text (j .state) (j .session) out state out′
-          → length out′ ≡ length out
-          → Turned j assoc text out (calls * roundsAt j)
-          (record {
-            instance = j .instance;
-            direction = j .direction;
-            assoc = j .assoc;
-            text = j .text;
-            key = j .key;
-            nonce = j .nonce;
-            tag = j .tag;
-            done = j .done + calls * rounds;
-            place = record { part = j .place .part; call = j .place .call + calls; round = 0 };
-            ending = j .ending;
-            state = state;
-            session = j .session;
-          })
-          out′
-      unfolding built
-      gone-on state out′ g l =
-          let e : j .done + calls * roundsAt j ≡ j .done + calls * rounds = ap (λ (n : ℕ). j .done + calls * n) (sym (rounds-is j 0 kind k rounds r)) in
-          subst (λ (n : ℕ). Turned j assoc text out (calls * roundsAt j) (built n state) out′) e
+          → length out′ ≡ length out → (r : Job)
+          → r ≡ changed j (j .tag) (j .done + calls * rounds) (record { part = j .place .part; call = j .place .call + calls; round = 0 }) (j .ending) state (j .session)
+          → Turned j assoc text out (calls * roundsAt j) r out′
+      gone-on state out′ g l r e =
+          let at : Place = record { part = j .place .part; call = j .place .call + calls; round = 0 } in
+          let d : j .done + calls * roundsAt j ≡ j .done + calls * rounds = ap (λ (n : ℕ). j .done + calls * n) (sym (rounds-is j 0 kind k rounds rs)) in
+          subst (λ (y : Job). Turned j assoc text out (calls * roundsAt j) y out′)
+          (ap (λ (n : ℕ). changed j (j .tag) n at (j .ending) state (j .session)) d ∙ sym e)
           (row-turned j assoc text out h calls row state out′
           (subst (λ (i : ℕ). Gone (j .instance) i (j .place .call) calls (sealingOf (j .direction)) (j .nonce) assoc text (j .state) (j .session) out state out′) k g) l)

@@ -22,7 +22,7 @@ use Rattle.plan.specs.Kinds.{verify-most, encrypt-most, rounds-most, text-calls
 use Rattle.sponge.specs.Kinds.{machine, partOf, CanEnter, Entered}
 use Rattle.sponge.specs.Leaves.{CanLeave, outLeft, tagLeft, shape-of}
 use Rattle.isap.specs.declared.Job.{Job}
-use Rattle.isap.specs.Records.{sealingOf, inputOf, machineOf, shapesOf, totalOf}
+use Rattle.isap.specs.Records.{sealingOf, inputOf, machineOf, shapesOf, totalOf, changed}
 use Rattle.isap.specs.Turns.{turnedTo, Ready, At, at-of, total-is, EnteredAt, acceptsOf, endsWith, turn-steps}
 use Rattle.isap.specs.Sofar.{Timed, Turned, up-to, turned-of}
 
@@ -169,37 +169,8 @@ module _ (j : Job) (assoc text out : List ℕ) (count : ℕ) (h : Ready j assoc 
               let e = sym (h .placeIs) in
               pl (j .done) (subst (λ (n : ℕ). j .done < n) (sym (total-is j)) (h .inside)) (λ i. places.place (e i .part) (e i .call) (e i .round))
 
-          pub together : Turned j assoc text out count
-              (record {
-                instance = j .instance;
-                direction = j .direction;
-                assoc = j .assoc;
-                text = j .text;
-                key = j .key;
-                nonce = j .nonce;
-                tag = tag;
-                done = j .done + count;
-                place = w;
-                ending = ending;
-                state = state;
-                session = ss;
-              })
-              out′
+          pub together : (y : Job) → y ≡ changed j tag (j .done + count) w ending state ss → Turned j assoc text out count y out′
           unfolding m
-          together =
-              turned-of j assoc text out count h (machine state ss out′ tag) (turn-steps j assoc text out count h s ss entered-is (machine state ss out′ tag) turned) _
-              (λ i. record {
-                instance = j .instance;
-                direction = j .direction;
-                assoc = j .assoc;
-                text = j .text;
-                key = j .key;
-                nonce = j .nonce;
-                tag = tag;
-                done = j .done + count;
-                place = place-is i;
-                ending = ending-is i;
-                state = state;
-                session = ss;
-              })
-              out′ refl long
+          together y e =
+              turned-of j assoc text out count h (machine state ss out′ tag) (turn-steps j assoc text out count h s ss entered-is (machine state ss out′ tag) turned) y
+              (e ∙ (λ i. changed j tag (j .done + count) (place-is i) (ending-is i) state ss)) out′ refl long

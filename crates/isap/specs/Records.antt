@@ -10,6 +10,7 @@ use Rattle.stopping.specs.Course.{Course, Core, steps}
 use Rattle.mode.specs.Parts.{Machine, Input, course}
 use Rattle.mode.specs.Instances.{paramsOf}
 use Rattle.mode.specs.Counts.{allShapes, verifyRounds, encryptRounds}
+use Rattle.plan.specs.declared.places.Place.{Place}
 use Rattle.plan.specs.Planned.{placed}
 use Rattle.sponge.specs.Kinds.{given, machine}
 use Rattle.isap.specs.declared.Job.{Job}
@@ -39,9 +40,9 @@ shapesOf j = allShapes (paramsOf (j .instance)) (sealingOf (j .direction)) (j .a
 unfoldable pub totalOf : Job → ℕ
 totalOf j = encryptRounds (paramsOf (j .instance)) (j .text) + verifyRounds (paramsOf (j .instance)) (j .assoc) (j .text)
 
--- the record of a job that is now at k
-abbrev pub after : Job → Core Machine → Job
-after j k =
+-- a record with what rounds change in it
+abbrev pub changed : Job → (tag : List ℕ) → (done : ℕ) → Place → (ending : ℕ) → (state session : List ℕ) → Job
+changed j tag done place ending state session =
     record {
       instance = j .instance;
       direction = j .direction;
@@ -49,13 +50,17 @@ after j k =
       text = j .text;
       key = j .key;
       nonce = j .nonce;
-      tag = k .machine .tag;
-      done = k .done;
-      place = placed (placeOf (shapesOf j) (k .done));
-      ending = k .ending;
-      state = k .machine .state;
-      session = k .machine .session;
+      tag = tag;
+      done = done;
+      place = place;
+      ending = ending;
+      state = state;
+      session = session;
     }
+
+-- the record of a job that is now at k
+abbrev pub after : Job → Core Machine → Job
+after j k = changed j (k .machine .tag) (k .done) (placed (placeOf (shapesOf j) (k .done))) (k .ending) (k .machine .state) (k .machine .session)
 
 -- n steps of it
 unfoldable pub ran : Job → (assoc text out : List ℕ) → ℕ → Core Machine

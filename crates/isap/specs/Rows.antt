@@ -20,7 +20,7 @@ use Rattle.sponge.specs.Kinds.{machine, partOf}
 use Rattle.sponge.specs.Leaves.{shape-of}
 use Rattle.rows.specs.Gone.{many, Gone}
 use Rattle.isap.specs.declared.Job.{Job}
-use Rattle.isap.specs.Records.{sealingOf, inputOf, machineOf, coreOf, courseOf, shapesOf, totalOf, after, ran}
+use Rattle.isap.specs.Records.{sealingOf, inputOf, machineOf, coreOf, courseOf, shapesOf, totalOf, changed, after, ran}
 use Rattle.isap.specs.Turns.{Ready, part-is, lawful-c, stands-at, all-rounds, more}
 use Rattle.isap.specs.Sofar.{Fresh, fresh-at, fresh-ready, Turned}
 
@@ -119,40 +119,12 @@ module _ (j : Job) (assoc text out : List ℕ) (h : Fresh j assoc text out) (cal
 
     -- the record with the state, the rounds and the place that the calls lead to
     pub row-turned : length out′ ≡ length out → Turned j assoc text out count
-        (record {
-          instance = j .instance;
-          direction = j .direction;
-          assoc = j .assoc;
-          text = j .text;
-          key = j .key;
-          nonce = j .nonce;
-          tag = j .tag;
-          done = j .done + count;
-          place = record { part = j .place .part; call = j .place .call + calls; round = 0 };
-          ending = j .ending;
-          state = state;
-          session = j .session;
-        })
-        out′
+        (changed j (j .tag) (j .done + count) (record { part = j .place .part; call = j .place .call + calls; round = 0 }) (j .ending) state (j .session)) out′
     unfolding core
     row-turned l =
         record {
           jobIs =
-              (λ i. record {
-                instance = j .instance;
-                direction = j .direction;
-                assoc = j .assoc;
-                text = j .text;
-                key = j .key;
-                nonce = j .nonce;
-                tag = j .tag;
-                done = j .done + count;
-                place = placed (sym place-is i);
-                ending = h .unended i;
-                state = state;
-                session = j .session;
-              })
-              ∙ ap (after j) (sym ran-is);
+              (λ i. changed j (j .tag) (j .done + count) (placed (sym place-is i)) (h .unended i) state (j .session)) ∙ ap (after j) (sym ran-is);
           outIs = ap (λ (k : Core Machine). k .machine .out) (sym ran-is);
           doneIs = ap (λ (k : Core Machine). k .done) ran-is;
           upTo = omega (arith, row-upto);

@@ -5,6 +5,7 @@ ghost use Rattle.isap.specs.Turns.{At, Rest};
 ghost use Rattle.isap.specs.Sofar.{Fresh, Timed, Turned};
 ghost use Rattle.isap.specs.Rows.{roundsAt, Row, Rows, Further};
 use crate::Job;
+use crate::turns::changed;
 use crate::turns::turn;
 use plan::Place;
 
@@ -61,22 +62,8 @@ fn row(job: Job, assoc: &[u8], text: &[u8], out: &mut [u8], calls: u32) -> Job
         call: at.call + calls,
         round: 0,
     };
-    let key = job.key;
     let tag = job.tag;
-    Job {
-        instance: job.instance,
-        direction: job.direction,
-        assoc: job.assoc,
-        text: job.text,
-        key,
-        nonce,
-        tag,
-        done,
-        place,
-        ending: job.ending,
-        state,
-        session,
-    }
+    changed(job, tag, done, place, job.ending, state, session)
 }
 
 // The rounds that can be done in one go: what is left of the call, or of the budget.

@@ -6,10 +6,11 @@ ghost use Rattle.stopping.specs.Course.{endingOf};
 ghost use Rattle.mode.specs.Instances.{paramsOf};
 ghost use Rattle.sponge.specs.Kinds.{CanEnter};
 ghost use Rattle.sponge.specs.Leaves.{CanLeave, outLeft, tagLeft};
-ghost use Rattle.isap.specs.Records.{inputOf};
+ghost use Rattle.isap.specs.Records.{inputOf, changed as changedTo};
 ghost use Rattle.isap.specs.Turns.{Ready, EnteredAt, acceptsOf};
 ghost use Rattle.isap.specs.Sofar.{Timed, Turned};
 use crate::Job;
+use plan::Place;
 use sponge::Two;
 
 // The state and the session bytes that the next round meets: a call's first round comes after what enters the call.
@@ -109,6 +110,36 @@ fn index_of(instance: u32, rounds: u32, round: u32) -> u32
     q.most - rounds + round
 }
 
+// The record with what rounds change in it.
+pub fn changed(
+    job: Job,
+    tag: [u8; 16],
+    done: u32,
+    place: Place,
+    ending: u32,
+    state: [u8; 50],
+    session: [u8; 50],
+) -> Job
+    ensures { λ r. ⌜ r ≡ changedTo job tag done place ending state session ⌝ }
+{
+    let key = job.key;
+    let nonce = job.nonce;
+    Job {
+        instance: job.instance,
+        direction: job.direction,
+        assoc: job.assoc,
+        text: job.text,
+        key,
+        nonce,
+        tag,
+        done,
+        place,
+        ending,
+        state,
+        session,
+    }
+}
+
 // The record after `count` rounds more, all of one call.
 pub fn turn(
     job: Job,
@@ -135,21 +166,6 @@ pub fn turn(
     let done = job.done + count;
     let ending = ending_after(done, front, back, sealing, tag, state);
     let place = plan::moved(job.instance, sealing, job.assoc, job.text, at, count);
-    let key = job.key;
-    let nonce = job.nonce;
     let session = two.session;
-    Job {
-        instance: job.instance,
-        direction: job.direction,
-        assoc: job.assoc,
-        text: job.text,
-        key,
-        nonce,
-        tag,
-        done,
-        place,
-        ending,
-        state,
-        session,
-    }
+    changed(job, tag, done, place, ending, state, session)
 }

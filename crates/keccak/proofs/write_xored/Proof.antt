@@ -9,8 +9,9 @@ use lib.ListN.{length, getD, take, drop}
 use denote.Ref.{now}
 use borrow.Author.Needs.{needs}
 use Rattle.bits.specs.Bytes.{Bytes}
-use Rattle.bits.specs.Part.{length-part}
-use Rattle.keccak.specs.Lanes.{planeBytes}
+use Rattle.bits.specs.Part.{length-part, part-front}
+use Rattle.bits.specs.Xors.{xors}
+use Rattle.keccak.specs.Lanes.{planeBytes, bytesOf}
 use Rattle.keccak.proofs.Written.{WrittenFrom, from-more}
 use Rattle.keccak.proofs.ByteLaws.{length-plane}
 use Rattle.keccak.proofs.Blocks.{block-out}
@@ -22,27 +23,32 @@ returns c =
     let four = c .before .before in
     let five = four .before .before .before .before .before in
     let mixed = five .before .before .before in
-    let known = mixed .before in
+    let known = mixed .before .before in
     let start = known .before .before in
     let at = start .args .at in
     let out = now (start .args .out) in
+    let text = now (start .args .text) in
     let r = mixed .absorbed .result in
     let p = planeBytes (getD r 0 []) in
     let q = take 8 (planeBytes (getD r 1 [])) in
     let l : at ≤ length out = omega arith in
     let eight = length-part (planeBytes (getD r 1 [])) 0 8 (omega (arith, length-plane (getD r 1 []))) in
-    let bytes : Bytes (now (start .args .text)) = record { each = λ i. known .shared-slice-known .given i .fits } in
+    let bytes : Bytes text = record { each = λ i. known .shared-slice-known .given i .fits } in
     let w0 : WrittenFrom at p 10 (five .put-plane .last .0) out =
     record { is = five .put-plane .ensures; long = length-plane (getD r 0 []) } in
     let w1 = from-more l w0 q 8 eight (four .put-four .ensures) in
     w1 .is
     ∙ ap (λ (s : List ℕ). take at out ++ (s ++ drop (at + 18) out))
-    (block-out (now (start .args .text)) at (start .pre .0) bytes (start .args .a) r (mixed .absorbed .ensures))
+    (block-out text at (start .pre .0) bytes (start .args .a) r
+    (mixed .absorbed .ensures ∙ ap (λ (x : List ℕ). xors (bytesOf (start .args .a)) x ++ drop 18 (bytesOf (start .args .a))) (part-front text at 18 (start .pre .0))))
 
 pub write-xored-spec : {M : Type 1} → statement M
 write-xored-spec =
     tie.close
     (tie.spec
+    (λ c. search needs)
+    (λ c. search needs)
+    (λ c. search needs)
     (λ c κs. search needs)
     (λ c. lit< tt)
     (λ c κs. search needs)

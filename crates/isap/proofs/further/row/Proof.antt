@@ -38,18 +38,18 @@ add-done c =
       sum-fits (a .job) (a .assoc .now) (a .text .now) (a .out .now) (z .pre .0) (a .calls) (z .pre .1) (k .result) (k .ensures .0) (r .rounds-of .result) (r .rounds-of .ensures .0),
     )
 
-add-call : tie.Need-add-t19
+add-call : tie.Need-add-t18
 add-call c = omega (arith, c .before .before .before .before .before .before .before .before .before .before .before .before .before .before .before .before .pre .1 .small)
 
 returns : tie.Need-returns
 returns c =
     let r = c .before .before .before .before in
-    let g = c .before .before .before .before .before .before .before in
+    let g = c .before .before .before .before .before .before .before .go in
     let k = r .before .before .before .before .before .before .before .before .kind-of in
     let z = r .before .before .before .before .before .before .before .before .before .before .before .before .before .before in
     let a = z .args in
     gone-on (a .job) (a .assoc .now) (a .text .now) (a .out .now) (z .pre .0) (a .calls) (z .pre .1) (k .result) (k .ensures .0) (r .rounds-of .result) (r .rounds-of .ensures .0)
-    (g .go .result) (g .go .last .1 .1 .1 .1 .1 .1 .1 .1 .1 .1 .0) (g .go .ensures) (search needs)
+    (g .result) (g .last .1 .1 .1 .1 .1 .1 .1 .1 .1 .1 .0) (g .ensures) (search needs) (c .changed .result) (c .changed .ensures)
 
 pub row-spec : {M : Type 1} → statement M
-row-spec = tie.close (tie.spec kind-of-requires go-requires (λ c κs. search needs) mul-done add-done add-call (λ c. search needs) returns)
+row-spec = tie.close (tie.spec kind-of-requires go-requires (λ c κs. search needs) mul-done add-done add-call (λ c κs. search needs) (λ c. search needs) returns)

@@ -78,7 +78,7 @@ moved-requires c κs =
 
 returns : tie.Need-returns
 returns c =
-    let m = c .before .before .before in
+    let m = c .before .before in
     let e = m .before in
     let l = e .before .before .before .before in
     let s = l .before .before .before in
@@ -93,6 +93,7 @@ returns c =
     (i .index-of .result) (i .index-of .ensures) (s .permute .result) (s .permute .ensures)
     (l .left-behind .result) (l .left-behind .ensures .0) (l .left-behind .last .1 .1 .1 .1 .1 .0) (l .left-behind .ensures .1)
     (e .ending-after .result) (e .ending-after .ensures) (m .moved .result) (m .moved .ensures) (l .left-behind .kept .1 .1 .1 .1 .1 .0)
+    (c .changed .result) (c .changed .ensures)
 
 pub turn-spec : {M : Type 1} → statement M
 turn-spec =
@@ -108,5 +109,6 @@ turn-spec =
     add-done
     ending-after-requires
     moved-requires
+    (λ c κs. search needs)
     (λ c. search needs)
     returns)

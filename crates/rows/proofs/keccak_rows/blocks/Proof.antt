@@ -28,7 +28,7 @@ loop-holds c =
 loop-again : tie.Need-loop-again Inv-loop μ-loop
 loop-again c =
     let fed = c .before in
-    let l = fed .before .before in
+    let l = fed .before .before .before in
     let a = l .before .before .before .before .args in (
       search needs,
       block-more keccak-keeps (a .from) (a .count) (a .first) (a .t1) (lit< tt) 18 (a .src .now) (l .loop .k) (bytesOf (l .loop .a))
@@ -52,6 +52,9 @@ blocks-spec =
     (λ c. search needs)
     (λ c κs. search needs)
     loop-holds
+    (λ c. search needs)
+    (λ c. search needs)
+    (λ c. search needs)
     (λ c. search needs)
     (λ c. search needs)
     (λ c. search needs)
