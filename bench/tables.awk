@@ -9,7 +9,6 @@ BEGIN {
     split("151 1548 143 1548", rekey)
     split("0 16", assocs)
     split("0 16 64 256 1024 4096", texts)
-    split("64 1024 4096", sliced_texts)
     split("1 8 64 4294967295", budgets)
     aim = 1.5
 }
@@ -130,6 +129,6 @@ function slices_row(i, m,    x, k, r) {
 function slices(    i, y) {
     print "| Instance | m | rounds | budget 1 | 8 | 64 | all | a slice more |\n|---|---|---|---|---|---|---|---|"
     for (i = 1; i <= 4; i++)
-        for (y = 1; y <= 3; y++)
-            slices_row(i, sliced_texts[y])
+        for (y = 1; y <= 6; y++)
+            slices_row(i, texts[y])
 }

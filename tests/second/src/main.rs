@@ -18,7 +18,8 @@ mod threads;
 
 use std::io::Write;
 
-const USAGE: &str = "usage: second permutations states|answers, plan rows|many requests|lines, cases file|summary, known FOLDER, or sealed FILE";
+const USAGE: &str =
+    "usage: second permutations states|answers, plan rows|many requests|lines, cases file|summary, known FOLDER, or sealed FILE";
 
 /// A report; where it tells a failure it goes to the error output and the program fails.
 fn passed((report, failed): (String, bool)) -> String {

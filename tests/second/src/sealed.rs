@@ -1,5 +1,5 @@
-//! Sealings of the library that a host wrote to a file (`host/tests/fuzz.c`), sealed again. A line has the instance, then in hex key, nonce,
-//! associated data, text, and ciphertext with tag; `-` stands for no bytes.
+//! Sealings of the library that a host wrote to a file (`host/tests/fuzz.c`), sealed again. A line has the instance, then in hex key,
+//! nonce, associated data, text, and ciphertext with tag; `-` stands for no bytes.
 
 use crate::known::{sixteen, unhex};
 use crate::paper::{ended, Given};
