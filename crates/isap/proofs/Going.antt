@@ -1,19 +1,18 @@
 -- `row_calls` and `row`, from what each of their calls gives: how many calls go in one go, and that they are as many steps as they have rounds.
 -- Assumes nothing.
-use mathlib.Core.Path.{_≡_, refl, sym, ap, _∙_, subst}
-use mathlib.Core.Bool.{Bool, true}
+use mathlib.Core.Path.{_≡_, sym, ap, _∙_, subst}
+use mathlib.Core.Bool.{true}
 use mathlib.Core.List.{List}
 use Prim.Native.Nat.{ℕ, _+_, _-_, _*_, _≤_, _<_}
 use native.Mathlib.Omega.{arith}
 use lib.ListN.{length}
 use Rattle.mode.specs.Instances.{paramsOf}
 use Rattle.plan.specs.declared.places.Place.{Place}
-use Rattle.plan.specs.Planned.{kindOf, shapeOf}
+use Rattle.plan.specs.Planned.{shapeOf}
 use Rattle.plan.specs.Kinds.{verify-most, encrypt-most}
 use Rattle.rows.specs.Gone.{many, CanGo, Gone}
 use Rattle.isap.specs.declared.Job.{Job}
 use Rattle.isap.specs.Records.{sealingOf, totalOf, changed}
-use Rattle.isap.specs.Turns.{At}
 use Rattle.isap.specs.Sofar.{Fresh, Turned}
 use Rattle.isap.specs.Rows.{kindAt, roundsAt, Row, Rows, row-upto, row-turned}
 

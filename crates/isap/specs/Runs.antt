@@ -13,7 +13,7 @@ use Rattle.stopping.specs.Follows.{lasts-most, following, follows, ended}
 use Rattle.mode.specs.Params.{Params}
 use Rattle.mode.specs.Paper.{isapEnc, seal, Opened, Opened.plaintext, Opened.refused, unseal}
 use Rattle.mode.specs.Parts.{Machine, Input}
-use Rattle.mode.specs.Instances.{isapA128a, isapA128, isapK128a, isapK128, paramsOf, lawful-instance}
+use Rattle.mode.specs.Instances.{isapA128a, isapA128, isapK128a, isapK128, paramsOf, by-instance, lawful-instance}
 use Rattle.mode.specs.Counts.{verifyRounds, encryptRounds, frontCount, front-rounds, back-rounds, all-count, lawful}
 use Rattle.mode.specs.Theorems.{Ready, sealing-accepted, sealing-out, sealing-tag, opening-out, opening-is-paper, untouched-refused}
 use Rattle.isap.specs.declared.Job.{Job}
@@ -24,14 +24,8 @@ use Rattle.isap.specs.Beginnings.{begunJob}
 use Rattle.isap.specs.Whole.{openedAnswer, openedOut}
 
 state-fits : (i : ℕ) → paramsOf i .n ≤ 50
-unfolding paramsOf isapA128a isapA128 isapK128a isapK128
-state-fits i = go (eqb i 1) (eqb i 2) (eqb i 3)
-  where
-    go : (a b c : Bool) → pick a isapA128a (pick b isapA128 (pick c isapK128a isapK128)) .n ≤ 50
-    go true b c = omega arith
-    go false true c = omega arith
-    go false false true = omega arith
-    go false false false = omega arith
+unfolding isapA128a isapA128 isapK128a isapK128
+state-fits i = by-instance (λ p. p .n ≤ 50) (omega arith) (omega arith) (omega arith) (omega arith) i
 
 module _ (instance direction : ℕ) (key nonce tag assoc text out : List ℕ)
     (hk : length key ≡ 16) (hn : length nonce ≡ 16) (long : length out ≡ length text) where

@@ -1,5 +1,4 @@
 // How far a job can go in one go: some whole calls of a part that has many, or some rounds of one call.
-ghost use mathlib.Core.Path.{_≡_};
 ghost use Prim.Native.Nat.{_*_, _≤_, _<_};
 ghost use Rattle.isap.specs.Turns.{At, Rest};
 ghost use Rattle.isap.specs.Sofar.{Fresh, Timed, Turned};

@@ -36,6 +36,21 @@ paramsOf i = pick (eqb i 1) isapA128a (pick (eqb i 2) isapA128 (pick (eqb i 3) i
 unfoldable pub known : ℕ → Bool
 known i = leb 1 i && leb i 4
 
+-- what holds for the four holds for every number's instance; where it matters, by the tests for 1 and 2
+pub by-number : (P : (is-1 is-2 : Bool) → Params → Type 0) → ((b : Bool) → P true b isapA128a) → P false true isapA128 → P false false isapK128a
+    → P false false isapK128 → (i : ℕ) → P (eqb i 1) (eqb i 2) (paramsOf i)
+unfolding paramsOf
+by-number P p1 p2 p3 p4 i = go (eqb i 1) (eqb i 2) (eqb i 3)
+  where
+    go : (a b c : Bool) → P a b (pick a isapA128a (pick b isapA128 (pick c isapK128a isapK128)))
+    go true b c = p1 b
+    go false true c = p2
+    go false false true = p3
+    go false false false = p4
+
+pub by-instance : (P : Params → Type 0) → P isapA128a → P isapA128 → P isapK128a → P isapK128 → (i : ℕ) → P (paramsOf i)
+by-instance P p1 p2 p3 p4 i = by-number (λ a b p. P p) (λ b. p1) p2 p3 p4 i
+
 -- ---- Table 2.3: the initial values in hex
 
 -- the eight bytes of each flag, and zeros up to n - 16
@@ -87,11 +102,7 @@ lawful-by p e k =
     }
 
 pub lawful-instance : (i : ℕ) → LawfulParams (paramsOf i)
-unfolding paramsOf isapA128a isapA128 isapK128a isapK128 tests passes
-lawful-instance i = go (eqb i 1) (eqb i 2) (eqb i 3)
-  where
-    go : (a b c : Bool) → LawfulParams (pick a isapA128a (pick b isapA128 (pick c isapK128a isapK128)))
-    go true b c = lawful-by isapA128a refl ascon-keeps
-    go false true c = lawful-by isapA128 refl ascon-keeps
-    go false false true = lawful-by isapK128a refl keccak-keeps
-    go false false false = lawful-by isapK128 refl keccak-keeps
+unfolding isapA128a isapA128 isapK128a isapK128 tests passes
+lawful-instance i =
+    by-instance LawfulParams (lawful-by isapA128a refl ascon-keeps) (lawful-by isapA128 refl ascon-keeps)
+    (lawful-by isapK128a refl keccak-keeps) (lawful-by isapK128 refl keccak-keeps) i

@@ -15,7 +15,7 @@ use Rattle.stopping.specs.Places.{shapeAt}
 use Rattle.mode.specs.Params.{Params}
 use Rattle.mode.specs.Paper.{blocks}
 use Rattle.mode.specs.Parts.{unlessEmpty}
-use Rattle.mode.specs.Instances.{isapA128a, isapA128, isapK128a, isapK128, paramsOf, known}
+use Rattle.mode.specs.Instances.{isapA128a, isapA128, isapK128a, isapK128, paramsOf, known, by-instance}
 use Rattle.mode.specs.Counts.{rekeyRounds, verifyRounds, encryptRounds, encShapes, macShapes, frontShapes, backShapes, allShapes}
 use Rattle.plan.specs.declared.Numbers.{Numbers}
 use Rattle.plan.specs.declared.Planned.{Planned}
@@ -57,23 +57,13 @@ module _ (p : Params) (a m : ℕ) where
 
 -- ---- bounds, over the four instances
 
-by-instance : (P : Params → Type 0) → P isapA128a → P isapA128 → P isapK128a → P isapK128 → (i : ℕ) → P (paramsOf i)
-unfolding paramsOf
-by-instance P p1 p2 p3 p4 i = go (eqb i 1) (eqb i 2) (eqb i 3)
-  where
-    go : (u v w : Bool) → P (pick u isapA128a (pick v isapA128 (pick w isapK128a isapK128)))
-    go true v w = p1
-    go false true w = p2
-    go false false true = p3
-    go false false false = p4
-
 -- the largest verification and the largest encryption within document 01's limits
 pub verify-most : (i a m : ℕ) → a ≤ 256 → m ≤ 4096 → verifyRounds (paramsOf i) a m ≤ 8124
 unfolding verifyRounds rekeyRounds isapA128a isapA128 isapK128a isapK128
 verify-most i a m ha hm =
     by-instance (λ p. verifyRounds p a m ≤ 8124) (omega arith) (omega arith) (omega arith) (omega arith) i
 
-unless-most : (m k n : ℕ) → k ≤ n → unlessEmpty m k ≤ n
+pub unless-most : (m k n : ℕ) → k ≤ n → unlessEmpty m k ≤ n
 unfolding unlessEmpty
 unless-most zero k n h = omega arith
 unless-most (suc m) k n h = h

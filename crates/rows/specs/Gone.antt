@@ -2,14 +2,14 @@
 -- to the state one after the other.
 -- Assumes nothing.
 use mathlib.Core.Path.{_≡_, refl, sym, ap, ap₂, _∙_, subst}
-use mathlib.Core.Bool.{Bool, true, false}
+use mathlib.Core.Bool.{Bool, true}
 use mathlib.Core.List.{List}
 use Prim.Native.Nat.{ℕ, zero, suc, _+_, _-_, _*_, _≤_, _<_}
-use native.Mathlib.Nat.{le-trans, mul-le-mul-right, suc-mul}
+use native.Mathlib.Nat.{mul-le-mul-right, suc-mul}
 use native.Mathlib.Omega.{arith}
-use lib.Dec.{eqb}
+use lib.Dec.{eqb, lit≤}
 use borrow.Author.Tests.{eqb-true, ne-eqb}
-use lib.ListN.{length, take, drop}
+use lib.ListN.{length, take}
 use Rattle.bits.specs.Pick.{pick}
 use Rattle.bits.specs.Run.{turns, run}
 use Rattle.stopping.specs.Stopped.{whole}
@@ -24,10 +24,9 @@ use Rattle.mode.specs.Calls.{turns-run}
 use Rattle.mode.specs.Instances.{paramsOf, lawful-instance}
 use Rattle.mode.specs.Counts.{encShapes, macShapes}
 use Rattle.plan.specs.Planned.{shapeOf}
-use Rattle.plan.specs.Kinds.{text-calls}
+use Rattle.plan.specs.Kinds.{unless-most, text-calls}
 use Rattle.sponge.specs.Kinds.{given, machine, partOf}
 use Rattle.sponge.specs.Leaves.{turn-of}
-use Rattle.sponge.specs.Entering.{unless-most}
 use Rattle.sponge.specs.Offsets.{pad-offset, text-offset}
 use Rattle.rows.specs.Fed.{fed, bitIn, blockIn, nothingIn, writtenBy}
 
@@ -160,7 +159,7 @@ module _ {instance kind call calls : ℕ} {assoc text out : List ℕ} (can : Can
 
   pub nonce-room : kind ≡ 1 → call + calls ≤ 128
   unfolding shapeOf shapeAt encShapes macShapes
-  nonce-room e = omega (arith, below 1 e, unless-most (length text) 127)
+  nonce-room e = omega (arith, below 1 e, unless-most (length text) 127 127 (lit≤ tt))
 
   pub session-room : kind ≡ 8 → call + calls ≤ 128
   unfolding shapeOf shapeAt encShapes macShapes

@@ -3,7 +3,7 @@
 use mathlib.Core.Path.{_≡_, refl, sym, ap, _∙_}
 use mathlib.Core.List.{List, [], _∷_, _++_, append-assoc}
 use Prim.Native.Nat.{ℕ, zero, suc, _+_, _-_, _*_, _≤_, _<_, min}
-use native.Mathlib.Nat.{suc-mul, add-zero, zero-add, mul-le-mul-right, div-mul-le-self}
+use native.Mathlib.Nat.{add-zero, zero-add}
 use native.Mathlib.Decide.{decLt}
 use native.Mathlib.Omega.{arith}
 use lib.Bits.{bitXor}
@@ -12,8 +12,6 @@ use lib.Seq.{take-nil, drop-drop, length-take-le, paste, paste-suc, take-all}
 use Rattle.bits.specs.Put.{put, putAt}
 use Rattle.bits.specs.Xors.{xors, length-xors, xors-none}
 use Rattle.mode.specs.Strings.{block}
-use Rattle.mode.specs.Params.{Params}
-use Rattle.mode.specs.Paper.{blocks}
 use Rattle.mode.specs.Parts.{first}
 
 -- ---- a string put in place

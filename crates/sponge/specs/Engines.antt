@@ -10,7 +10,7 @@ use Rattle.bits.specs.Run.{run}
 use Rattle.ascon.specs.Permutation.{asconRound}
 use Rattle.keccak.specs.Fips202.{keccakRound}
 use Rattle.mode.specs.Params.{Params}
-use Rattle.mode.specs.Instances.{isapA128a, isapA128, isapK128a, isapK128, paramsOf}
+use Rattle.mode.specs.Instances.{isapA128a, isapA128, isapK128a, isapK128, paramsOf, by-number}
 
 -- instances 1 and 2
 unfoldable pub onAscon : ℕ → Bool
@@ -26,22 +26,17 @@ pub record Runs (p : Params) (n b m : ℕ) (r : ℕ → List ℕ → List ℕ) :
 split : {P : Type 0} → true ≡ false → P
 split {P} e = subst (λ (b : Bool). pick b (Unit {0}) P) e tt
 
-module _ (i : ℕ) where
-  pub runs-ascon : onAscon i ≡ true → Runs (paramsOf i) 40 8 12 asconRound
-  unfolding onAscon paramsOf isapA128a isapA128
-  runs-ascon = go (eqb i 1) (eqb i 2) (eqb i 3)
-    where
-      go : (a b c : Bool) → pick a true b ≡ true → Runs (pick a isapA128a (pick b isapA128 (pick c isapK128a isapK128))) 40 8 12 asconRound
-      go true b c e = record { most = refl; block = refl; run = λ from count s. refl }
-      go false true c e = record { most = refl; block = refl; run = λ from count s. refl }
-      go false false c e = split (sym e)
+pub runs-ascon : (i : ℕ) → onAscon i ≡ true → Runs (paramsOf i) 40 8 12 asconRound
+unfolding onAscon isapA128a isapA128
+runs-ascon i =
+    by-number (λ a b p. pick a true b ≡ true → Runs p 40 8 12 asconRound)
+    (λ b e. record { most = refl; block = refl; run = λ from count s. refl })
+    (λ e. record { most = refl; block = refl; run = λ from count s. refl })
+    (λ e. split (sym e)) (λ e. split (sym e)) i
 
-  pub runs-keccak : onAscon i ≡ false → Runs (paramsOf i) 50 18 20 keccakRound
-  unfolding onAscon paramsOf isapK128a isapK128
-  runs-keccak = go (eqb i 1) (eqb i 2) (eqb i 3)
-    where
-      go : (a b c : Bool) → pick a true b ≡ false → Runs (pick a isapA128a (pick b isapA128 (pick c isapK128a isapK128))) 50 18 20 keccakRound
-      go true b c e = split e
-      go false true c e = split e
-      go false false true e = record { most = refl; block = refl; run = λ from count s. refl }
-      go false false false e = record { most = refl; block = refl; run = λ from count s. refl }
+pub runs-keccak : (i : ℕ) → onAscon i ≡ false → Runs (paramsOf i) 50 18 20 keccakRound
+unfolding onAscon isapK128a isapK128
+runs-keccak i =
+    by-number (λ a b p. pick a true b ≡ false → Runs p 50 18 20 keccakRound) (λ b e. split e) (λ e. split e)
+    (λ e. record { most = refl; block = refl; run = λ from count s. refl })
+    (λ e. record { most = refl; block = refl; run = λ from count s. refl }) i

@@ -3,9 +3,9 @@
 -- Assumes nothing.
 use mathlib.Core.Path.{_≡_, refl, sym, ap₂, _∙_, subst}
 use mathlib.Core.List.{List, _++_}
-use Prim.Native.Nat.{ℕ, zero, suc, _+_, _-_, _/_, _≤_, _<_}
+use Prim.Native.Nat.{ℕ, _+_, _-_, _/_, _≤_, _<_}
 use native.Mathlib.Omega.{arith}
-use lib.Dec.{eqb, ltb}
+use lib.Dec.{eqb, ltb, lit≤}
 use lib.ListN.{length, take, drop, replicate}
 use borrow.Author.Tests.{lt-ltb, le-ltb, ne-eqb}
 use Rattle.bits.specs.Pick.{pick}
@@ -14,8 +14,9 @@ use Rattle.bits.specs.Put.{put, putAt}
 use Rattle.stopping.specs.Places.{partAt}
 use Rattle.mode.specs.Strings.{xorInto, xorAt, block, padded, bitAt, xorBit}
 use Rattle.mode.specs.Params.{Params, iv}
-use Rattle.mode.specs.Parts.{Input, first, unlessEmpty, cipherOf, part, keyStart, keyBits, keyEnd, texts, macStart, assocs, ciphers, setAside, macKeyStart, macKeyBits, macKeyEnd, takeBack, macEnd}
+use Rattle.mode.specs.Parts.{Input, first, cipherOf, part, keyStart, keyBits, keyEnd, texts, macStart, assocs, ciphers, setAside, macKeyStart, macKeyBits, macKeyEnd, takeBack, macEnd}
 use Rattle.mode.specs.Instances.{paramsOf}
+use Rattle.plan.specs.Kinds.{unless-most}
 use Rattle.sponge.specs.Kinds.{machine, partOf, CanEnter, Entered}
 
 -- encryption's parts, 0 to 3
@@ -79,18 +80,13 @@ module _ (instance kind call : ℕ) (x : Input) (s ss o : List ℕ) where
 
 -- ---- what a call's number is below
 
-pub unless-most : (m k : ℕ) → unlessEmpty m k ≤ k
-unfolding unlessEmpty
-unless-most zero k = omega arith
-unless-most (suc m) k = omega arith
-
 module _ {instance kind call : ℕ} {x : Input} {out : List ℕ} (can : CanEnter instance kind call x out) where
   call-at : (k : ℕ) → kind ≡ k → call < partOf (paramsOf instance) x k .shape .count
   call-at k e = subst (λ (j : ℕ). call < partOf (paramsOf instance) x j .shape .count) e (can .isCall)
 
   pub nonce-bits : kind ≡ 1 → call < 128
   unfolding partOf partAt part keyBits
-  nonce-bits e = omega (arith, call-at 1 e, unless-most (length (x .text)) 127)
+  nonce-bits e = omega (arith, call-at 1 e, unless-most (length (x .text)) 127 127 (lit≤ tt))
 
   pub session-bits : kind ≡ 8 → call < 128
   unfolding partOf partAt part macKeyBits

@@ -3,13 +3,13 @@
 -- Assumes nothing.
 use mathlib.Core.Path.{_≡_, refl, sym, ap, ap₂, _∙_, subst}
 use mathlib.Core.List.{List}
-use Prim.Native.Nat.{ℕ, zero, suc, _+_, _-_, _*_, _≤_, _<_}
+use Prim.Native.Nat.{ℕ, zero, suc, _+_, _-_, _*_, _<_}
 use native.Mathlib.Nat.{suc-mul, add-zero, zero-mul}
 use native.Mathlib.Decide.{decLt}
 use native.Mathlib.Omega.{arith}
 use Rattle.bits.specs.Run.{turns}
 use Rattle.stopping.specs.Stopped.{Call, whole, entered, left, left-last}
-use Rattle.stopping.specs.Parts.{Part, Shape, roundsIn, callOf, shapes}
+use Rattle.stopping.specs.Parts.{Part, Shape, callOf, shapes}
 use Rattle.stopping.specs.Places.{Place, place, placeOf, partAt, callAt, shapeAt, shape-part, place-inside, place-past, into, Moves, moves}
 use Rattle.stopping.specs.Course.{Course, parts, frontRounds, backRounds, Core, coreAt, standsAt, steps, Lawful}
 use Rattle.stopping.specs.Follows.{steps-add, all-rounds, all-some}

@@ -1,6 +1,6 @@
 -- `ascon::words_of` meets its contract, word by word.
 -- Assumes nothing.
-use mathlib.Core.Path.{_≡_, ap, _∙_}
+use mathlib.Core.Path.{ap, _∙_}
 use denote.Ref.{now}
 use borrow.Author.Needs.{needs}
 use Rattle.ascon.specs.Permutation.{wordsOf, bytesOf}

@@ -4,7 +4,6 @@ use denote.Ref.{now}
 use borrow.Author.Needs.{needs}
 use Rattle.bits.specs.Run.{run-words}
 use Rattle.keccak.specs.Laws.{keccak-keeps}
-use Rattle.keccak.specs.Lanes.{bytesOf}
 use Rattle.keccak.proofs.rounds.Statement.{statement}
 use Rattle.keccak.proofs.rounds.Tie as tie
 

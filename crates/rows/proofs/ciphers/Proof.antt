@@ -1,8 +1,5 @@
 -- `rows::ciphers` meets its contract: by the direction.
 -- Assumes nothing.
-use mathlib.Core.Path.{_≡_, sym, _∙_}
-use mathlib.Core.Bool.{Bool}
-use native.Mathlib.Omega.{arith}
 use borrow.Author.Needs.{needs}
 use Rattle.rows.proofs.ciphers.Statement.{statement}
 use Rattle.rows.proofs.ciphers.Tie as tie

@@ -5,7 +5,7 @@ use native.Mathlib.Nat.{mul-pos}
 use native.Mathlib.Omega.{arith}
 use borrow.Author.Needs.{needs}
 use Rattle.isap.specs.Sofar.{fresh-at, fresh-ready}
-use Rattle.isap.specs.Rows.{roundsAt, Further}
+use Rattle.isap.specs.Rows.{roundsAt}
 use Rattle.isap.proofs.further.further.Statement.{statement}
 use Rattle.isap.proofs.further.further.Tie as tie
 

@@ -1,7 +1,7 @@
 -- `isap::further::row_calls` meets its contract: up to the last call, and no more rounds than are left.
 -- Assumes nothing.
 use mathlib.Core.Path.{_≡_, sym, ap, _∙_}
-use Prim.Native.Nat.{ℕ, _-_, _*_, _/_, _≤_, _<_}
+use Prim.Native.Nat.{ℕ, _-_, _/_, _<_}
 use native.Mathlib.Nat.{le-trans, mul-le-mul-right, div-mul-le-self}
 use native.Mathlib.Omega.{arith}
 use borrow.Author.Needs.{needs}
@@ -9,8 +9,8 @@ use Rattle.mode.specs.Instances.{paramsOf}
 use Rattle.plan.specs.Planned.{shapeOf}
 use Rattle.isap.specs.declared.Job.{Job}
 use Rattle.isap.specs.Turns.{At}
-use Rattle.isap.specs.Rows.{kindAt, Rows, no-row}
-use borrow.Author.Tests.{eq-eqb, ne-eqb, not-false}
+use Rattle.isap.specs.Rows.{kindAt, no-row}
+use borrow.Author.Tests.{not-false}
 use Rattle.isap.proofs.Going.{chosen}
 use Rattle.isap.proofs.further.row_calls.Statement.{statement}
 use Rattle.isap.proofs.further.row_calls.Tie as tie

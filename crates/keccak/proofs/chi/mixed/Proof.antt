@@ -1,6 +1,5 @@
 -- `keccak::chi::mixed` meets its contract: it computes the formula of each lane, two of them with an `or` (`proofs/StepLaws.antt`).
 -- Assumes nothing.
-use mathlib.Core.Path.{refl}
 use mathlib.Core.List.{[], _∷_}
 use lib.Dec.{lit<}
 use Rattle.keccak.specs.Lanes.{at, chiLane}

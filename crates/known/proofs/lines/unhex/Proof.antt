@@ -1,6 +1,6 @@
 -- `known::lines::unhex` is safe and ends: i goes up to half the digits, which the output has room for.
 -- Assumes nothing.
-use Prim.Native.Nat.{_-_, _≤_, _/_}
+use Prim.Native.Nat.{_-_, _≤_}
 use mathlib.Core.Path.{_≡_}
 use borrow.Author.Needs.{needs}
 use lib.ListN.{length}
