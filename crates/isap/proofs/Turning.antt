@@ -23,7 +23,7 @@ use Rattle.sponge.specs.Kinds.{machine, partOf, CanEnter, Entered}
 use Rattle.sponge.specs.Leaves.{CanLeave, outLeft, tagLeft, shape-of}
 use Rattle.isap.specs.declared.Job.{Job}
 use Rattle.isap.specs.Records.{sealingOf, inputOf, machineOf, shapesOf, totalOf, changed}
-use Rattle.isap.specs.Turns.{turnedTo, Ready, At, at-of, total-is, EnteredAt, acceptsOf, endsWith, turn-steps}
+use Rattle.isap.specs.Turns.{turnedTo, Ready, at, total-is, EnteredAt, acceptsOf, endsWith, turn-steps}
 use Rattle.isap.specs.Sofar.{Timed, Turned, up-to, turned-of}
 
 -- ---- what enters a call
@@ -52,9 +52,6 @@ enters-first j kind assoc text out s ss h e tag =
 -- ---- a job ready for some rounds of a call
 
 module _ (j : Job) (assoc text out : List ℕ) (count : ℕ) (h : Ready j assoc text out count) where
-  pub standing : At j (j .place)
-  standing = subst (At j) (sym (h .placeIs)) (at-of j (h .inside))
-
   pub done-fits : j .done + count ≤ 15816
   unfolding totalOf
   done-fits =
@@ -76,8 +73,8 @@ module _ (j : Job) (assoc text out : List ℕ) (count : ℕ) (h : Ready j assoc 
       record {
         assocLimit = h .assocLimit;
         textLimit = h .textLimit;
-        isPart = standing .isPart;
-        isCall = standing .isCall;
+        isPart = at j assoc text out count h .isPart;
+        isCall = at j assoc text out count h .isCall;
         isRound = h .fits;
       }
 
@@ -91,7 +88,7 @@ module _ (j : Job) (assoc text out : List ℕ) (count : ℕ) (h : Ready j assoc 
     can-enter =
         record {
           isKind = small;
-          isCall = subst (λ (q : Shape). j .place .call < q .count) (sym shape-is) (standing .isCall);
+          isCall = subst (λ (q : Shape). j .place .call < q .count) (sym shape-is) (at j assoc text out count h .isCall);
           assocLimit = omega (arith, h .assocLong, h .assocLimit);
           textLimit = omega (arith, h .textLong, h .textLimit);
           outLong = h .outLong ∙ sym (h .textLong);
@@ -107,7 +104,7 @@ module _ (j : Job) (assoc text out : List ℕ) (count : ℕ) (h : Ready j assoc 
               text-calls (paramsOf (j .instance)) (j .assoc) (length text) (j .place .call)
               (subst (λ (q : Shape). j .place .call < q .count)
               (λ i. shapeOf (paramsOf (j .instance)) (j .assoc) (sym (h .textLong) i) ((sym k ∙ three) i))
-              (standing .isCall));
+              (at j assoc text out count h .isCall));
         }
 
     module _ (rounds : ℕ) (r : (a m : ℕ) → rounds ≡ shapeOf (paramsOf (j .instance)) a m kind .rounds) where

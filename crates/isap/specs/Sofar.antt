@@ -20,7 +20,7 @@ use Rattle.plan.specs.declared.places.Place.{Place}
 use Rattle.plan.specs.Planned.{placed, kindOf, shapeOf}
 use Rattle.isap.specs.declared.Job.{Job}
 use Rattle.isap.specs.Records.{sealingOf, coreOf, courseOf, shapesOf, totalOf, after, ran}
-use Rattle.isap.specs.Turns.{Ready, At, at-of, acceptsOf, endsWith, total-is, kind-shape, some-shapes-of}
+use Rattle.isap.specs.Turns.{Ready, At, at-of, stands-in, acceptsOf, endsWith, total-is, kind-shape, some-shapes-of}
 use Rattle.isap.specs.Slices.{endingRight, placeRight, limitsRight, standsOf}
 
 -- a record that stands and has not ended, with what belongs to it lent
@@ -37,7 +37,7 @@ pub record Fresh (j : Job) (assoc text out : List ℕ) : Type 0 where
 -- it stands in a call, and is ready for some rounds of it
 module _ {j : Job} {assoc text out : List ℕ} (h : Fresh j assoc text out) where
   pub fresh-at : At j (j .place)
-  fresh-at = subst (At j) (sym (h .placeIs)) (at-of j (h .inside))
+  fresh-at = stands-in j (h .placeIs) (h .inside)
 
   pub fresh-ready : (count : ℕ) → 0 < count
       → j .place .round + count ≤ shapeOf (paramsOf (j .instance)) (j .assoc) (j .text) (kindOf (sealingOf (j .direction)) (j .place .part)) .rounds

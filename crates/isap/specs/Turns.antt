@@ -145,6 +145,10 @@ at-of j h =
       isRound = subst (λ (h : Shape). w .round < h .rounds) shape (i .round);
     }
 
+-- so a record whose place is that of its rounds stands in a call
+pub stands-in : (j : Job) → j .place ≡ placed (placeOf (shapesOf j) (j .done)) → j .done < totalOf j → At j (j .place)
+stands-in j e h = subst (At j) (sym e) (at-of j h)
+
 -- the state and the session bytes that its next round meets
 unfoldable pub EnteredAt : Job → (kind : ℕ) → (assoc text out state′ session′ : List ℕ) → Type 0
 EnteredAt j kind assoc text out s ss =
@@ -210,9 +214,8 @@ module _ (j : Job) (assoc text out : List ℕ) (count : ℕ) (h : Ready j assoc 
   unfolding w
   place-is = h .placeIs
 
-  at : At j (j .place)
-  unfolding w
-  at = subst (At j) (sym (h .placeIs)) (at-of j (h .inside))
+  pub at : At j (j .place)
+  at = stands-in j (h .placeIs) (h .inside)
 
   call-is : callAt (parts c) w ≡ callOf (partOf p x kind) (j .place .call)
   unfolding courseOf p x kind callAt w

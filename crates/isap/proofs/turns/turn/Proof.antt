@@ -2,7 +2,8 @@
 -- Assumes nothing.
 use native.Mathlib.Omega.{arith}
 use borrow.Author.Needs.{needs}
-use Rattle.isap.proofs.Turning.{standing, done-fits, both-fit, can-enter, can-leave, within, under, can-move, together}
+use Rattle.isap.specs.Turns.{at}
+use Rattle.isap.proofs.Turning.{done-fits, both-fit, can-enter, can-leave, within, under, can-move, together}
 use Rattle.isap.proofs.turns.turn.Statement.{statement}
 use Rattle.isap.proofs.turns.turn.Tie as tie
 
@@ -10,7 +11,7 @@ kind-of-requires : tie.Need-kind-of-requires
 kind-of-requires c κs =
     let z = c .before .before .before .before .before in
     let a = z .args in
-    standing (a .job) (a .assoc .now) (a .text .now) (a .out .now) (a .count) (z .pre .0) .isPart
+    at (a .job) (a .assoc .now) (a .text .now) (a .out .now) (a .count) (z .pre .0) .isPart
 
 entered-requires : tie.Need-entered-requires
 entered-requires c κs =
