@@ -1,3 +1,4 @@
+mod Calling
 mod Tests
 mod Turning
 mod Slicing

@@ -13,8 +13,9 @@ use Rattle.bits.specs.Pick.{pick}
 use Rattle.bits.specs.Every.{passes-at}
 use Rattle.stopping.specs.Course.{Core}
 use Rattle.mode.specs.Parts.{Machine}
+use Rattle.mode.specs.Isap.{schemeOf, lawful-scheme}
 use Rattle.isap.specs.declared.Job.{Job}
-use Rattle.isap.specs.Records.{after, ran}
+use Rattle.isap.specs.Records.{frontOf, backOf, after, ran}
 use Rattle.isap.specs.Slices.{standsOf, lentOf, numberOf, refusalOf, answer, sliceOf, outOf}
 use Rattle.isap.specs.Promises.{Slices, slice-refused}
 use Rattle.isap.specs.Sofar.{Fresh, Sofar, Timed, sofar-end, fresh-of}
@@ -27,37 +28,38 @@ module _ (j : Job) (assoc text out : List ℕ) where
   fresh-by true false l q = absurd (omega (arith, q))
   fresh-by false e l q = absurd (omega (arith, q))
 
-  pub unrefused : refusalOf j assoc text out ≡ 0 → Fresh j assoc text out
+  pub unrefused : refusalOf schemeOf j assoc text out ≡ 0 → Fresh schemeOf j assoc text out
   unfolding refusalOf lentOf
   unrefused q =
-      let t = fresh-by (standsOf j) (eqb (j .ending) 0) (lentOf j assoc text out) q in
+      let t = fresh-by (standsOf schemeOf j) (eqb (j .ending) 0) (lentOf j assoc text out) q in
       let l = passes-at _ (t .2) in
-      fresh-of j assoc text out (t .0) (eqb-true (j .ending) 0 (t .1))
+      fresh-of schemeOf lawful-scheme j assoc text out (t .0) (eqb-true (j .ending) 0 (t .1))
       (eqb-true (length assoc) (j .assoc) (l 0)) (eqb-true (length text) (j .text) (l 1)) (eqb-true (length out) (j .text) (l 2))
 
   module _ (budget : ℕ) where
-    pub refuses : (n : ℕ) → n ≡ refusalOf j assoc text out → (n ≡ 0 → ⊥) → Slices j assoc text out budget (record { number = n; rounds = 0; job = j }) out
+    pub refuses : (n : ℕ) → n ≡ refusalOf schemeOf j assoc text out → (n ≡ 0 → ⊥) → Slices schemeOf j assoc text out budget (record { number = n; rounds = 0; job = j }) out
     refuses n e f =
-        let t = slice-refused j assoc text out budget (λ z. f (e ∙ z)) in
+        let t = slice-refused schemeOf j assoc text out budget (λ z. f (e ∙ z)) in
         (ap (λ (k : ℕ). record { number = k; rounds = 0; job = j }) e ∙ sym (t .0), sym (t .1))
 
-    pub finishes : (left : ℕ) (r : Job) (out′ : List ℕ) (number : ℕ) → refusalOf j assoc text out ≡ 0 → Sofar j assoc text out budget left r out′
-        → (left ≡ 0) ⊎ (r .ending ≡ 0 → ⊥) → number ≡ numberOf (r .ending) → Slices j assoc text out budget (record { number = number; rounds = budget - left; job = r }) out′
+    pub finishes : (left : ℕ) (r : Job) (out′ : List ℕ) (number : ℕ) → refusalOf schemeOf j assoc text out ≡ 0 → Sofar schemeOf j assoc text out budget left r out′
+        → (left ≡ 0) ⊎ (r .ending ≡ 0 → ⊥) → number ≡ numberOf (r .ending) → Slices schemeOf j assoc text out budget (record { number = number; rounds = budget - left; job = r }) out′
     unfolding sliceOf outOf answer
     finishes left r out′ number q h w n =
-        let yes : eqb (refusalOf j assoc text out) 0 ≡ true = eq-eqb (refusalOf j assoc text out) 0 q in
-        let e : ran j assoc text out (budget - left) ≡ ran j assoc text out budget = sofar-end j assoc text out budget left r out′ h w in
-        let all : number ≡ numberOf (ran j assoc text out budget .ending) =
+        let yes : eqb (refusalOf schemeOf j assoc text out) 0 ≡ true = eq-eqb (refusalOf schemeOf j assoc text out) 0 q in
+        let e : ran schemeOf j assoc text out (budget - left) ≡ ran schemeOf j assoc text out budget = sofar-end schemeOf lawful-scheme j assoc text out budget left r out′ h w in
+        let all : number ≡ numberOf (ran schemeOf j assoc text out budget .ending) =
         n ∙ ap (λ (y : Job). numberOf (y .ending)) (h .jobIs) ∙ ap (λ (k : Core Machine). numberOf (k .ending)) e in
-        let d : ran j assoc text out budget .done ≡ j .done + (budget - left) = sym (ap (λ (k : Core Machine). k .done) e) ∙ h .doneIs in
-        let rounds : budget - left ≡ ran j assoc text out budget .done - j .done = omega (arith, d) in
-        let job : r ≡ after j (ran j assoc text out budget) = h .jobIs ∙ ap (after j) e in (
+        let d : ran schemeOf j assoc text out budget .done ≡ j .done + (budget - left) = sym (ap (λ (k : Core Machine). k .done) e) ∙ h .doneIs in
+        let rounds : budget - left ≡ ran schemeOf j assoc text out budget .done - j .done = omega (arith, d) in
+        let job : r ≡ after schemeOf j (ran schemeOf j assoc text out budget) = h .jobIs ∙ ap (after schemeOf j) e in (
           (λ i. record { number = all i; rounds = rounds i; job = job i })
-              ∙ sym (ap (λ (b : Bool). pick b (answer j assoc text out budget) (record { number = refusalOf j assoc text out; rounds = 0; job = j })) yes),
-          h .outIs ∙ ap (λ (k : Core Machine). k .machine .out) e ∙ sym (ap (λ (b : Bool). pick b (ran j assoc text out budget .machine .out) out) yes),
+              ∙ sym (ap (λ (b : Bool). pick b (answer schemeOf j assoc text out budget) (record { number = refusalOf schemeOf j assoc text out; rounds = 0; job = j })) yes),
+          h .outIs ∙ ap (λ (k : Core Machine). k .machine .out) e ∙ sym (ap (λ (b : Bool). pick b (ran schemeOf j assoc text out budget .machine .out) out) yes),
         )
 
     -- the counts of a slice are those of each record in it
-    pub timed-now : (left : ℕ) (r : Job) (out′ : List ℕ) (front back : ℕ) → Sofar j assoc text out budget left r out′ → Timed j front back → Timed r front back
+    pub timed-now : (left : ℕ) (r : Job) (out′ : List ℕ) (front back : ℕ) → Sofar schemeOf j assoc text out budget left r out′ → Timed schemeOf j front back → Timed schemeOf r front back
+    unfolding frontOf backOf
     timed-now left r out′ front back h t =
-        subst (λ (y : Job). Timed y front back) (sym (h .jobIs)) (record { frontIs = t .frontIs; backIs = t .backIs })
+        subst (λ (y : Job). Timed schemeOf y front back) (sym (h .jobIs)) (record { frontIs = t .frontIs; backIs = t .backIs })

@@ -6,19 +6,14 @@ use lib.Dec.{eqb, leb}
 use lib.ListN.{length, replicate}
 use Rattle.bits.specs.Pick.{pick}
 use Rattle.stopping.specs.Places.{placeOf}
-use Rattle.mode.specs.Instances.{paramsOf, known}
-use Rattle.mode.specs.Counts.{allShapes}
+use Rattle.scheme.specs.Scheme.{Scheme, allShapes}
+use Rattle.mode.specs.Instances.{known}
 use Rattle.plan.specs.Planned.{placed}
 use Rattle.isap.specs.declared.Job.{Job}
 use Rattle.isap.specs.declared.Begun.{Begun}
 use Rattle.isap.specs.Records.{sealingOf}
 
 -- ---- the refusals of document 01, each 0 if it does not apply
-
--- 1 to 5, by the instance and the lengths
-unfoldable pub limitsRefusal : (instance key nonce a m : ℕ) → ℕ
-limitsRefusal instance key nonce a m =
-    pick (known instance) (pick (eqb key 16) (pick (eqb nonce 16) (pick (leb a 256) (pick (leb m 4096) 0 5) 4) 3) 2) 1
 
 -- 7
 unfoldable pub tagRefusal : (tag : ℕ) → ℕ
@@ -29,23 +24,6 @@ unfoldable pub orElse : (refusal next : ℕ) → ℕ
 orElse refusal next = pick (eqb refusal 0) next refusal
 
 -- ---- the records
-
-unfoldable pub begunJob : (instance direction : ℕ) → (key nonce tag : List ℕ) → (a m : ℕ) → Job
-begunJob instance direction key nonce tag a m =
-    record {
-      instance = instance;
-      direction = direction;
-      assoc = a;
-      text = m;
-      key = key;
-      nonce = nonce;
-      tag = tag;
-      done = 0;
-      place = placed (placeOf (allShapes (paramsOf instance) (sealingOf direction) a m) 0);
-      ending = 0;
-      state = replicate 50 0;
-      session = replicate 50 0;
-    }
 
 -- all zeros
 unfoldable pub noJob : Job
@@ -68,12 +46,37 @@ noJob =
 unfoldable pub begunOr : (refusal : ℕ) → Job → Begun
 begunOr refusal j = pick (eqb refusal 0) (record { number = 100; job = j }) (record { number = refusal; job = noJob })
 
--- ---- the two beginnings
+-- ---- by the schemes of the instances
 
-unfoldable pub beginSealOf : (instance : ℕ) → (key nonce : List ℕ) → (a m : ℕ) → Begun
-beginSealOf instance key nonce a m =
-    begunOr (limitsRefusal instance (length key) (length nonce) a m) (begunJob instance 1 key nonce (replicate 16 0) a m)
+module _ (of : ℕ → Scheme) where
+  -- 1 to 5, by the instance and the lengths
+  unfoldable pub limitsRefusal : (instance key nonce a m : ℕ) → ℕ
+  limitsRefusal instance key nonce a m =
+      pick (known instance) (pick (eqb key (of instance .keyBytes)) (pick (eqb nonce 16) (pick (leb a 256) (pick (leb m 4096) 0 5) 4) 3) 2) 1
 
-unfoldable pub beginOpenOf : (instance : ℕ) → (key nonce tag : List ℕ) → (a m : ℕ) → Begun
-beginOpenOf instance key nonce tag a m =
-    begunOr (orElse (limitsRefusal instance (length key) (length nonce) a m) (tagRefusal (length tag))) (begunJob instance 2 key nonce tag a m)
+  unfoldable pub begunJob : (instance direction : ℕ) → (key nonce tag : List ℕ) → (a m : ℕ) → Job
+  begunJob instance direction key nonce tag a m =
+      record {
+        instance = instance;
+        direction = direction;
+        assoc = a;
+        text = m;
+        key = key;
+        nonce = nonce;
+        tag = tag;
+        done = 0;
+        place = placed (placeOf (allShapes (of instance) (sealingOf direction) a m) 0);
+        ending = 0;
+        state = replicate 50 0;
+        session = replicate 50 0;
+      }
+
+  -- ---- the two beginnings
+
+  unfoldable pub beginSealOf : (instance : ℕ) → (key nonce : List ℕ) → (a m : ℕ) → Begun
+  beginSealOf instance key nonce a m =
+      begunOr (limitsRefusal instance (length key) (length nonce) a m) (begunJob instance 1 key nonce (replicate 16 0) a m)
+
+  unfoldable pub beginOpenOf : (instance : ℕ) → (key nonce tag : List ℕ) → (a m : ℕ) → Begun
+  beginOpenOf instance key nonce tag a m =
+      begunOr (orElse (limitsRefusal instance (length key) (length nonce) a m) (tagRefusal (length tag))) (begunJob instance 2 key nonce tag a m)

@@ -12,12 +12,13 @@ use Rattle.bits.specs.Pick.{pick}
 use Rattle.bits.specs.Every.{passes, and-left, and-right}
 use Rattle.stopping.specs.Course.{endingOf}
 use Rattle.stopping.specs.Follows.{ends-true}
-use Rattle.mode.specs.Instances.{paramsOf, known, lawful-instance}
-use Rattle.mode.specs.Counts.{frontCount, backCount, front-pos}
+use Rattle.scheme.specs.Scheme.{Scheme}
+use Rattle.scheme.specs.Lawful.{LawfulScheme}
+use Rattle.mode.specs.Instances.{known}
 use Rattle.plan.specs.declared.places.Place.{Place}
 use Rattle.isap.specs.declared.Job.{Job}
 use Rattle.isap.specs.declared.Begun as begins
-use Rattle.isap.specs.Records.{sealingOf, shapesOf, totalOf}
+use Rattle.isap.specs.Records.{sealingOf, shapesOf, frontOf, backOf, totalOf}
 use Rattle.isap.specs.Slices.{endingRight, samePlace, placeRight, limitsRight, standsOf}
 use Rattle.isap.specs.Beginnings.{limitsRefusal, tagRefusal, orElse, begunJob, noJob, begunOr}
 
@@ -31,25 +32,6 @@ limits-by true true true false m q = absurd (omega (arith, q))
 limits-by true true false a m q = absurd (omega (arith, q))
 limits-by true false n a m q = absurd (omega (arith, q))
 limits-by false k n a m q = absurd (omega (arith, q))
-
-pub limits-none : (instance key nonce a m : ℕ) → limitsRefusal instance key nonce a m ≡ 0
-    → (known instance ≡ true) × (key ≡ 16) × (nonce ≡ 16) × (a ≤ 256) × (m ≤ 4096)
-unfolding limitsRefusal
-limits-none instance key nonce a m q =
-    let t = limits-by (known instance) (eqb key 16) (eqb nonce 16) (leb a 256) (leb m 4096) q in
-    (t .0, eqb-true key 16 (t .1), eqb-true nonce 16 (t .2), leb-true a 256 (t .3), leb-true m 4096 (t .4))
-
-pub limits-small : (instance key nonce a m : ℕ) → limitsRefusal instance key nonce a m ≤ 5
-unfolding limitsRefusal
-limits-small instance key nonce a m = go (known instance) (eqb key 16) (eqb nonce 16) (leb a 256) (leb m 4096)
-  where
-    go : (i k n a m : Bool) → pick i (pick k (pick n (pick a (pick m 0 5) 4) 3) 2) 1 ≤ 5
-    go true true true true true = omega arith
-    go true true true true false = omega arith
-    go true true true false m = omega arith
-    go true true false a m = omega arith
-    go true false n a m = omega arith
-    go false k n a m = omega arith
 
 pub tag-none : (t : ℕ) → tagRefusal t ≡ 0 → t ≡ 16
 unfolding tagRefusal
@@ -68,10 +50,6 @@ or-none r s q = go (eqb r 0) refl q
     go false e q = absurd (eqb-false r 0 e q)
 
 -- ---- the records
-
-pub none-stands : standsOf noJob ≡ false
-unfolding standsOf noJob limitsRight passes
-none-stands = refl
 
 same-place : (v : Place) → samePlace v v ≡ true
 unfolding passes
@@ -92,35 +70,60 @@ limits-within i d a m k w ha hm =
 ending-start : (v e : ℕ) → 0 < v → endingOf v e 0 true ≡ 0
 ending-start v e h = ends-true v e 0 ∙ ap (λ (b : Bool). pick b 1 0) (ne-eqb 0 (v + e) (λ z. omega (arith, z, h)))
 
-module _ (instance direction : ℕ) (key nonce tag : List ℕ) (a m : ℕ) where
-  abbrev begun : Job
-  begun = begunJob instance direction key nonce tag a m
-
-  ending-begun : endingRight begun ≡ true
-  unfolding endingRight begunJob
-  ending-begun =
-      let p = paramsOf instance in
-      let b = sealingOf direction in
-      let v = frontCount p b a m in
-      eq-eqb 0 (endingOf v (backCount p b m) 0 true) (sym (ending-start v (backCount p b m) (front-pos p (lawful-instance instance) b a m)))
-
-  place-begun : placeRight begun ≡ true
-  unfolding placeRight begunJob shapesOf
-  place-begun = same-place (begun .place)
-
-  done-begun : leb (begun .done) (totalOf begun) ≡ true
-  unfolding begunJob
-  done-begun = le-leb 0 (totalOf begun) (omega arith)
-
-  pub begun-stands : known instance ≡ true → (direction ≡ 1) ⊎ (direction ≡ 2) → a ≤ 256 → m ≤ 4096
-      → standsOf (begunJob instance direction key nonce tag a m) ≡ true
-  unfolding standsOf passes
-  begun-stands k d ha hm =
-      let lim : limitsRight (begun .instance) (begun .direction) (begun .assoc) (begun .text) ≡ true =
-      unfold begunJob in limits-within instance direction a m k d ha hm in
-      λ i. passes (lim i ∷ done-begun i ∷ ending-begun i ∷ place-begun i ∷ [])
-
 -- the record of a beginning that is not refused
 pub begun-job : (r : ℕ) (j : Job) → r ≡ 0 → begunOr r j .job ≡ j
 unfolding begunOr
 begun-job r j e = ap (λ (b : Bool). pick {A = begins.Begun} b (record { number = 100; job = j }) (record { number = r; job = noJob }) .job) (eq-eqb r 0 e)
+
+module _ (of : ℕ → Scheme) where
+  pub limits-none : (instance key nonce a m : ℕ) → limitsRefusal of instance key nonce a m ≡ 0
+      → (known instance ≡ true) × (key ≡ of instance .keyBytes) × (nonce ≡ 16) × (a ≤ 256) × (m ≤ 4096)
+  unfolding limitsRefusal
+  limits-none instance key nonce a m q =
+      let t = limits-by (known instance) (eqb key (of instance .keyBytes)) (eqb nonce 16) (leb a 256) (leb m 4096) q in
+      (t .0, eqb-true key (of instance .keyBytes) (t .1), eqb-true nonce 16 (t .2), leb-true a 256 (t .3), leb-true m 4096 (t .4))
+
+  pub limits-small : (instance key nonce a m : ℕ) → limitsRefusal of instance key nonce a m ≤ 5
+  unfolding limitsRefusal
+  limits-small instance key nonce a m = go (known instance) (eqb key (of instance .keyBytes)) (eqb nonce 16) (leb a 256) (leb m 4096)
+    where
+      go : (i k n a m : Bool) → pick i (pick k (pick n (pick a (pick m 0 5) 4) 3) 2) 1 ≤ 5
+      go true true true true true = omega arith
+      go true true true true false = omega arith
+      go true true true false m = omega arith
+      go true true false a m = omega arith
+      go true false n a m = omega arith
+      go false k n a m = omega arith
+
+  pub none-stands : standsOf of noJob ≡ false
+  unfolding standsOf noJob limitsRight passes
+  none-stands = refl
+
+module _ (of : ℕ → Scheme) (laws : (i : ℕ) → LawfulScheme (of i)) where
+  module _ (instance direction : ℕ) (key nonce tag : List ℕ) (a m : ℕ) where
+    abbrev begun : Job
+    begun = begunJob of instance direction key nonce tag a m
+
+    ending-begun : endingRight of begun ≡ true
+    unfolding endingRight begunJob frontOf backOf
+    ending-begun =
+        let b = sealingOf direction in
+        let v = of instance .frontCount b a m in
+        let e = of instance .backCount b a m in
+        eq-eqb 0 (endingOf v e 0 true) (sym (ending-start v e (laws instance .decides b a m)))
+
+    place-begun : placeRight of begun ≡ true
+    unfolding placeRight begunJob shapesOf
+    place-begun = same-place (begun .place)
+
+    done-begun : leb (begun .done) (totalOf of begun) ≡ true
+    unfolding begunJob
+    done-begun = le-leb 0 (totalOf of begun) (omega arith)
+
+    pub begun-stands : known instance ≡ true → (direction ≡ 1) ⊎ (direction ≡ 2) → a ≤ 256 → m ≤ 4096
+        → standsOf of (begunJob of instance direction key nonce tag a m) ≡ true
+    unfolding standsOf passes
+    begun-stands k d ha hm =
+        let lim : limitsRight (begun .instance) (begun .direction) (begun .assoc) (begun .text) ≡ true =
+        unfold begunJob in limits-within instance direction a m k d ha hm in
+        λ i. passes (lim i ∷ done-begun i ∷ ending-begun i ∷ place-begun i ∷ [])

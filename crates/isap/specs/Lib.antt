@@ -8,5 +8,6 @@ pub mod Runs
 pub mod Turns
 pub mod Sofar
 pub mod Rows
+pub mod Isap
 pub mod Budgets
 pub mod Promises

@@ -15,10 +15,10 @@ use Rattle.stopping.specs.Stopped.{stopped}
 use Rattle.stopping.specs.Parts.{row}
 use Rattle.stopping.specs.Course.{parts, lasts, halted, endedBy}
 use Rattle.stopping.specs.Follows.{following, unended}
-use Rattle.mode.specs.Paper.{seal, Opened}
-use Rattle.mode.specs.PaperLaws.{open-sealed, enc-length, length-mac}
-use Rattle.mode.specs.Instances.{paramsOf, lawful-instance}
-use Rattle.mode.specs.Counts.{verifyRounds, encryptRounds}
+use Rattle.bits.specs.Bytes.{Bytes}
+use Rattle.scheme.specs.Machine.{Opened, Buffer}
+use Rattle.scheme.specs.Scheme.{Scheme, allCount}
+use Rattle.scheme.specs.Lawful.{Given, LawfulScheme}
 use Rattle.plan.specs.declared.Planned.{Planned}
 use Rattle.plan.specs.Planned.{planOf}
 use Rattle.isap.specs.declared.Job.{Job}
@@ -33,82 +33,6 @@ use Rattle.isap.specs.Whole.{refusalFor, sealOf, sealOut, sealTag, openO
 use Rattle.isap.specs.Fits.{Fits, fits, unrefused}
 use Rattle.isap.specs.Runs.{runs, sealing-answer, sealing-writes, sealing-tags, opening-answer, opening-writes}
 use Rattle.isap.specs.Budgets.{Begun, Progress, sliced, sum, law, at, slice-at, budgets}
-
--- ---- two results that a statement allows are equal
-
-module _ (instance : ℕ) (key nonce : List ℕ) (a m : ℕ) where
-  abbrev BeginsSealing : begins.Begun → Type 0
-  BeginsSealing r = r ≡ beginSealOf instance key nonce a m
-
-  pub one-sealing-begun : (r r′ : begins.Begun) → BeginsSealing r → BeginsSealing r′ → r ≡ r′
-  one-sealing-begun r r′ h k = h ∙ sym k
-
-  abbrev BeginsOpening : (tag : List ℕ) → begins.Begun → Type 0
-  BeginsOpening tag r = r ≡ beginOpenOf instance key nonce tag a m
-
-  pub one-opening-begun : (tag : List ℕ) (r r′ : begins.Begun) → BeginsOpening tag r → BeginsOpening tag r′ → r ≡ r′
-  one-opening-begun tag r r′ h k = h ∙ sym k
-
-module _ (j : Job) (assoc text out : List ℕ) (budget : ℕ) where
-  abbrev pub Slices : Sliced → List ℕ → Type 0
-  Slices r out′ = (r ≡ sliceOf j assoc text out budget) × (out′ ≡ outOf j assoc text out budget)
-
-  pub one-slice : (r r′ : Sliced) (o o′ : List ℕ) → Slices r o → Slices r′ o′ → (r ≡ r′) × (o ≡ o′)
-  one-slice r r′ o o′ h k = (h .0 ∙ sym (k .0), h .1 ∙ sym (k .1))
-
-  -- a refused slice does no rounds, and leaves the record and the output
-  pub slice-refused : (refusalOf j assoc text out ≡ 0 → ⊥)
-      → (sliceOf j assoc text out budget ≡ record { number = refusalOf j assoc text out; rounds = 0; job = j }) × (outOf j assoc text out budget ≡ out)
-  unfolding sliceOf outOf
-  slice-refused f =
-      let no = ne-eqb (refusalOf j assoc text out) 0 f in
-      (rw (sliceOf, no), rw (outOf, no))
-
-module _ (instance : ℕ) (key nonce assoc text out tag : List ℕ) where
-  abbrev pub Seals : Answer → (out′ tag′ : List ℕ) → Type 0
-  Seals r o t =
-      (r ≡ sealOf instance key nonce assoc text out tag) × (o ≡ sealOut instance key nonce assoc text out tag) × (t ≡ sealTag instance key nonce assoc text out tag)
-
-  pub one-sealing : (r r′ : Answer) (o o′ t t′ : List ℕ) → Seals r o t → Seals r′ o′ t′ → (r ≡ r′) × (o ≡ o′) × (t ≡ t′)
-  one-sealing r r′ o o′ t t′ h k = (h .0 ∙ sym (k .0), h .1 ∙ sym (k .1), h .2 ∙ sym (k .2))
-
-  pub sealing-refused : (refusalFor instance key nonce assoc text out tag ≡ 0 → ⊥)
-      → Seals (record { number = refusalFor instance key nonce assoc text out tag; rounds = 0 }) out tag
-  unfolding sealOf sealOut sealTag
-  sealing-refused f =
-      let no = ne-eqb (refusalFor instance key nonce assoc text out tag) 0 f in
-      (rw no, rw no, rw no)
-
-  -- the same for a host in C
-  abbrev SealsInC : ℕ → (out′ tag′ : List ℕ) → Type 0
-  SealsInC r o t =
-      (r ≡ packed (sealOf instance key nonce assoc text out tag .number) (sealOf instance key nonce assoc text out tag .rounds))
-      × (o ≡ sealOut instance key nonce assoc text out tag) × (t ≡ sealTag instance key nonce assoc text out tag)
-
-  pub one-sealing-in-c : (r r′ : ℕ) (o o′ t t′ : List ℕ) → SealsInC r o t → SealsInC r′ o′ t′ → (r ≡ r′) × (o ≡ o′) × (t ≡ t′)
-  one-sealing-in-c r r′ o o′ t t′ h k = (h .0 ∙ sym (k .0), h .1 ∙ sym (k .1), h .2 ∙ sym (k .2))
-
-module _ (instance : ℕ) (key nonce assoc text tag out : List ℕ) where
-  abbrev pub Opens : Answer → (out′ : List ℕ) → Type 0
-  Opens r o = (r ≡ openOf instance key nonce assoc text tag out) × (o ≡ openOut instance key nonce assoc text tag out)
-
-  pub one-opening : (r r′ : Answer) (o o′ : List ℕ) → Opens r o → Opens r′ o′ → (r ≡ r′) × (o ≡ o′)
-  one-opening r r′ o o′ h k = (h .0 ∙ sym (k .0), h .1 ∙ sym (k .1))
-
-  pub opening-refused : (refusalFor instance key nonce assoc text out tag ≡ 0 → ⊥)
-      → Opens (record { number = refusalFor instance key nonce assoc text out tag; rounds = 0 }) out
-  unfolding openOf openOut
-  opening-refused f =
-      let no = ne-eqb (refusalFor instance key nonce assoc text out tag) 0 f in
-      (rw no, rw no)
-
-  abbrev OpensInC : ℕ → (out′ : List ℕ) → Type 0
-  OpensInC r o =
-      (r ≡ packed (openOf instance key nonce assoc text tag out .number) (openOf instance key nonce assoc text tag out .rounds))
-      × (o ≡ openOut instance key nonce assoc text tag out)
-
-  pub one-opening-in-c : (r r′ : ℕ) (o o′ : List ℕ) → OpensInC r o → OpensInC r′ o′ → (r ≡ r′) × (o ≡ o′)
-  one-opening-in-c r r′ o o′ h k = (h .0 ∙ sym (k .0), h .1 ∙ sym (k .1))
 
 -- what a host in C takes apart again
 pub packed-number : (number rounds : ℕ) → number < 4294967296 → packed number rounds % 4294967296 ≡ number
@@ -125,8 +49,6 @@ module _ (instance a m : ℕ) where
   pub one-plan-in-c : (f : Planned → ℕ) (r r′ : ℕ) → r ≡ packed (planOf instance a m .number) (f (planOf instance a m))
       → r′ ≡ packed (planOf instance a m .number) (f (planOf instance a m)) → r ≡ r′
   one-plan-in-c f r r′ h k = h ∙ sym k
-
--- ---- a beginning that is not refused gives a record of which all this is said
 
 begun-number : (r : ℕ) (j : Job) → r ≤ 7 → begunOr r j .number ≡ 100 → r ≡ 0
 unfolding begunOr
@@ -152,190 +74,269 @@ tag-small t = go (eqb t 16)
     go true = omega arith
     go false = omega arith
 
-module _ (instance direction : ℕ) (key nonce tag : List ℕ) (a m : ℕ) (assoc text out : List ℕ)
-    (ha : length assoc ≡ a) (ht : length text ≡ m) (ho : length out ≡ m) (way : (direction ≡ 1) ⊎ (direction ≡ 2)) where
-  begins-as : (r : ℕ) → r ≤ 7 → (r ≡ 0 → limitsRefusal instance (length key) (length nonce) a m ≡ 0)
-      → begunOr r (begunJob instance direction key nonce tag a m) .number ≡ 100 → Begun (begunOr r (begunJob instance direction key nonce tag a m) .job) assoc text out
-  unfolding begunJob
-  begins-as r small limits e =
-      let none = begun-number r (begunJob instance direction key nonce tag a m) small e in
-      let l = limits-none instance (length key) (length nonce) a m (limits none) in
-      subst (λ (y : Job). Begun y assoc text out) (sym (begun-job r (begunJob instance direction key nonce tag a m) none))
-      (record {
-        isKnown = l .0;
-        isDirection = way;
-        assocLimit = l .3;
-        textLimit = l .4;
-        isBegun = refl;
-        assocLong = ha;
-        textLong = ht;
-        outLong = ho;
-      })
+module _ (of : ℕ → Scheme) where
+  -- ---- two results that a statement allows are equal
 
-module _ (instance : ℕ) (key nonce : List ℕ) (a m : ℕ) (assoc text out : List ℕ) (ha : length assoc ≡ a) (ht : length text ≡ m) (ho : length out ≡ m) where
-  pub sealing-begins : beginSealOf instance key nonce a m .number ≡ 100 → Begun (beginSealOf instance key nonce a m .job) assoc text out
-  unfolding beginSealOf
-  sealing-begins e =
-      begins-as instance 1 key nonce (replicate 16 0) a m assoc text out ha ht ho (inl refl) (limitsRefusal instance (length key) (length nonce) a m)
-      (omega (arith, limits-small instance (length key) (length nonce) a m)) (λ z. z) e
+  module _ (instance : ℕ) (key nonce : List ℕ) (a m : ℕ) where
+    abbrev BeginsSealing : begins.Begun → Type 0
+    BeginsSealing r = r ≡ beginSealOf of instance key nonce a m
 
-  pub opening-begins : (tag : List ℕ) → beginOpenOf instance key nonce tag a m .number ≡ 100 → Begun (beginOpenOf instance key nonce tag a m .job) assoc text out
-  unfolding beginOpenOf
-  opening-begins tag e =
-      let r = limitsRefusal instance (length key) (length nonce) a m in
-      begins-as instance 2 key nonce tag a m assoc text out ha ht ho (inr refl) (orElse r (tagRefusal (length tag)))
-      (refusal-small r (tagRefusal (length tag)) (omega (arith, limits-small instance (length key) (length nonce) a m)) (tag-small (length tag)))
-      (λ z. or-none r (tagRefusal (length tag)) z .0) e
+    pub one-sealing-begun : (r r′ : begins.Begun) → BeginsSealing r → BeginsSealing r′ → r ≡ r′
+    one-sealing-begun r r′ h k = h ∙ sym k
 
--- ---- a budget of 0, and a slice after the end
+    abbrev BeginsOpening : (tag : List ℕ) → begins.Begun → Type 0
+    BeginsOpening tag r = r ≡ beginOpenOf of instance key nonce tag a m
 
-module _ (j : Job) (assoc text out : List ℕ) (h : Begun j assoc text out) (n : ℕ) where
-  abbrev reached : List ℕ
-  reached = halted (courseOf j assoc text) n (machineOf j out) .out
+    pub one-opening-begun : (tag : List ℕ) (r r′ : begins.Begun) → BeginsOpening tag r → BeginsOpening tag r′ → r ≡ r′
+    one-opening-begun tag r r′ h k = h ∙ sym k
 
-  pub no-budget : n < lasts (courseOf j assoc text) (machineOf j out)
-      → sliceOf (at j assoc text out h n) assoc text reached 0 ≡ record { number = 100; rounds = 0; job = at j assoc text out h n }
-  unfolding numberOf
-  no-budget l =
-      let c = courseOf j assoc text in
-      let m = machineOf j out in
-      let e : n + 0 ≡ n = omega arith in
-      let going : endedBy c (n + 0) m ≡ 0 = ap (λ (k : ℕ). endedBy c k m) e ∙ unended c (law j assoc text out h) m n l in
-      let none : min (n + 0) (lasts c m) - n ≡ 0 = omega (arith, l) in
-      slice-at j assoc text out h n 0 .0
-      ∙ ap (λ (b : Bool). pick b (record { number = numberOf (endedBy c (n + 0) m); rounds = min (n + 0) (lasts c m) - n; job = at j assoc text out h (n + 0) }) (record { number = 10; rounds = 0; job = at j assoc text out h n }))
-      (lt-ltb n (lasts c m) l)
-      ∙ (λ i. record { number = numberOf (going i); rounds = none i; job = at j assoc text out h (e i) })
+  module _ (j : Job) (assoc text out : List ℕ) (budget : ℕ) where
+    abbrev pub Slices : Sliced → List ℕ → Type 0
+    Slices r out′ = (r ≡ sliceOf of j assoc text out budget) × (out′ ≡ outOf of j assoc text out budget)
 
-  pub after-the-end : (budget : ℕ) → lasts (courseOf j assoc text) (machineOf j out) ≤ n
-      → (sliceOf (at j assoc text out h n) assoc text reached budget ≡ record { number = 10; rounds = 0; job = at j assoc text out h n })
-      × (outOf (at j assoc text out h n) assoc text reached budget ≡ reached)
-  unfolding halted
-  after-the-end budget l =
-      let c = courseOf j assoc text in
-      let m = machineOf j out in
-      let past : min (n + budget) (lasts c m) ≡ min n (lasts c m) = omega (arith, l) in (
-        slice-at j assoc text out h n budget .0
-            ∙ ap (λ (b : Bool). pick b (record { number = numberOf (endedBy c (n + budget) m); rounds = min (n + budget) (lasts c m) - n; job = at j assoc text out h (n + budget) }) (record { number = 10; rounds = 0; job = at j assoc text out h n }))
-            (le-ltb n (lasts c m) l),
-        slice-at j assoc text out h n budget .1 ∙ ap (λ (k : ℕ). stopped (row (parts c)) k m .out) past,
-      )
+    pub one-slice : (r r′ : Sliced) (o o′ : List ℕ) → Slices r o → Slices r′ o′ → (r ≡ r′) × (o ≡ o′)
+    one-slice r r′ o o′ h k = (h .0 ∙ sym (k .0), h .1 ∙ sym (k .1))
 
--- ---- slices to the end give what the whole call gives
+    -- a refused slice does no rounds, and leaves the record and the output
+    pub slice-refused : (refusalOf of j assoc text out ≡ 0 → ⊥)
+        → (sliceOf of j assoc text out budget ≡ record { number = refusalOf of j assoc text out; rounds = 0; job = j }) × (outOf of j assoc text out budget ≡ out)
+    unfolding sliceOf outOf
+    slice-refused f =
+        let no = ne-eqb (refusalOf of j assoc text out) 0 f in
+        (rw (sliceOf, no), rw (outOf, no))
 
--- a job begun, and its row of budgets
-abbrev Row : (instance direction : ℕ) → (key nonce tag assoc text out : List ℕ) → List ℕ → Progress
-Row instance direction key nonce tag assoc text out bs =
-    sliced assoc text bs (record { job = begunJob instance direction key nonce tag (length assoc) (length text); out = out; rounds = 0 })
+  module _ (instance : ℕ) (key nonce assoc text out tag : List ℕ) where
+    abbrev pub Seals : Answer → (out′ tag′ : List ℕ) → Type 0
+    Seals r o t =
+        (r ≡ sealOf of instance key nonce assoc text out tag) × (o ≡ sealOut of instance key nonce assoc text out tag) × (t ≡ sealTag of instance key nonce assoc text out tag)
 
-abbrev Total : (instance : ℕ) → (assoc text : List ℕ) → ℕ
-Total instance assoc text = encryptRounds (paramsOf instance) (length text) + verifyRounds (paramsOf instance) (length assoc) (length text)
+    pub one-sealing : (r r′ : Answer) (o o′ t t′ : List ℕ) → Seals r o t → Seals r′ o′ t′ → (r ≡ r′) × (o ≡ o′) × (t ≡ t′)
+    one-sealing r r′ o o′ t t′ h k = (h .0 ∙ sym (k .0), h .1 ∙ sym (k .1), h .2 ∙ sym (k .2))
 
-module _ (instance direction : ℕ) (key nonce tag assoc text out other : List ℕ) (h : Fits instance key nonce assoc text out other)
-    (way : (direction ≡ 1) ⊎ (direction ≡ 2)) (bs : List ℕ) where
-  abbrev j : Job
-  j = begunJob instance direction key nonce tag (length assoc) (length text)
+    pub sealing-refused : (refusalFor of instance key nonce assoc text out tag ≡ 0 → ⊥)
+        → Seals (record { number = refusalFor of instance key nonce assoc text out tag; rounds = 0 }) out tag
+    unfolding sealOf sealOut sealTag
+    sealing-refused f =
+        let no = ne-eqb (refusalFor of instance key nonce assoc text out tag) 0 f in
+        (rw no, rw no, rw no)
 
-  is-begun : Begun j assoc text out
-  unfolding begunJob
-  is-begun =
-      record {
-        isKnown = h .isKnown;
-        isDirection = way;
-        assocLimit = h .assocLimit;
-        textLimit = h .textLimit;
-        isBegun = refl;
-        assocLong = refl;
-        textLong = refl;
-        outLong = h .outLong;
-      }
+    -- the same for a host in C
+    abbrev SealsInC : ℕ → (out′ tag′ : List ℕ) → Type 0
+    SealsInC r o t =
+        (r ≡ packed (sealOf of instance key nonce assoc text out tag .number) (sealOf of instance key nonce assoc text out tag .rounds))
+        × (o ≡ sealOut of instance key nonce assoc text out tag) × (t ≡ sealTag of instance key nonce assoc text out tag)
 
-  -- what the slices leave is what as many rounds in one go leave
-  row-runs : (Row instance direction key nonce tag assoc text out bs .out ≡ ran j assoc text out (sum bs) .machine .out)
-      × (Row instance direction key nonce tag assoc text out bs .job .tag ≡ ran j assoc text out (sum bs) .machine .tag)
-      × (_≡_ {A = Answer} (record { number = numberOf (Row instance direction key nonce tag assoc text out bs .job .ending); rounds = Row instance direction key nonce tag assoc text out bs .rounds })
-      (record { number = numberOf (ran j assoc text out (sum bs) .ending); rounds = ran j assoc text out (sum bs) .done }))
-  unfolding at following begunJob
-  row-runs =
-      let e = budgets j assoc text out is-begun bs in
-      let r = sym (runs instance direction key nonce tag assoc text out (h .keyLong) (h .nonceLong) (h .outLong) (sum bs)) in (
-        ap Progress.out e ∙ (λ i. r i .machine .out),
-        ap (λ (q : Progress). q .job .tag) e ∙ (λ i. r i .machine .tag),
-        ap (λ (q : Progress). record { number = numberOf (q .job .ending); rounds = q .rounds }) e ∙ (λ i. record { number = numberOf (r i .ending); rounds = r i .done }),
-      )
+    pub one-sealing-in-c : (r r′ : ℕ) (o o′ t t′ : List ℕ) → SealsInC r o t → SealsInC r′ o′ t′ → (r ≡ r′) × (o ≡ o′) × (t ≡ t′)
+    one-sealing-in-c r r′ o o′ t t′ h k = (h .0 ∙ sym (k .0), h .1 ∙ sym (k .1), h .2 ∙ sym (k .2))
 
-module _ (instance : ℕ) (key nonce assoc text out tag : List ℕ) (none : refusalFor instance key nonce assoc text out tag ≡ 0)
-    (bs : List ℕ) (enough : Total instance assoc text ≤ sum bs) where
-  abbrev q : Progress
-  q = Row instance 1 key nonce (replicate 16 0) assoc text out bs
+  module _ (instance : ℕ) (key nonce assoc text tag out : List ℕ) where
+    abbrev pub Opens : Answer → (out′ : List ℕ) → Type 0
+    Opens r o = (r ≡ openOf of instance key nonce assoc text tag out) × (o ≡ openOut of instance key nonce assoc text tag out)
 
-  pub sealed-in-slices : Seals instance key nonce assoc text out tag (record { number = numberOf (q .job .ending); rounds = q .rounds }) (q .out) (q .job .tag)
-  unfolding sealOf sealOut sealTag
-  sealed-in-slices =
-      let h = fits instance key nonce assoc text out tag none in
-      let z : List ℕ = replicate 16 0 in
-      let r = row-runs instance 1 key nonce z assoc text out tag h (inl refl) bs in
-      let yes = eq-eqb (refusalFor instance key nonce assoc text out tag) 0 none in (
-        r .2 ∙ sealing-answer instance 1 key nonce z assoc text out (h .keyLong) (h .nonceLong) (h .outLong) (sum bs) enough refl ∙ rw yes,
-        r .0 ∙ sealing-writes instance 1 key nonce z assoc text out (h .keyLong) (h .nonceLong) (h .outLong) (sum bs) enough refl ∙ rw yes,
-        r .1 ∙ sealing-tags instance 1 key nonce z assoc text out (h .keyLong) (h .nonceLong) (h .outLong) (sum bs) enough refl ∙ rw yes,
-      )
+    pub one-opening : (r r′ : Answer) (o o′ : List ℕ) → Opens r o → Opens r′ o′ → (r ≡ r′) × (o ≡ o′)
+    one-opening r r′ o o′ h k = (h .0 ∙ sym (k .0), h .1 ∙ sym (k .1))
 
-module _ (instance : ℕ) (key nonce assoc text tag out : List ℕ) (none : refusalFor instance key nonce assoc text out tag ≡ 0)
-    (bs : List ℕ) (enough : Total instance assoc text ≤ sum bs) where
-  abbrev q′ : Progress
-  q′ = Row instance 2 key nonce tag assoc text out bs
+    pub opening-refused : (refusalFor of instance key nonce assoc text out tag ≡ 0 → ⊥)
+        → Opens (record { number = refusalFor of instance key nonce assoc text out tag; rounds = 0 }) out
+    unfolding openOf openOut
+    opening-refused f =
+        let no = ne-eqb (refusalFor of instance key nonce assoc text out tag) 0 f in
+        (rw no, rw no)
 
-  pub opened-in-slices : Opens instance key nonce assoc text tag out (record { number = numberOf (q′ .job .ending); rounds = q′ .rounds }) (q′ .out)
-  unfolding openOf openOut
-  opened-in-slices =
-      let h = fits instance key nonce assoc text out tag none in
-      let r = row-runs instance 2 key nonce tag assoc text out tag h (inr refl) bs in
-      let yes = eq-eqb (refusalFor instance key nonce assoc text out tag) 0 none in (
-        r .2 ∙ opening-answer instance 2 key nonce tag assoc text out (h .keyLong) (h .nonceLong) (h .outLong) (sum bs) enough refl ∙ rw yes,
-        r .0 ∙ opening-writes instance 2 key nonce tag assoc text out (h .keyLong) (h .nonceLong) (h .outLong) (sum bs) enough refl ∙ rw yes,
-      )
+    abbrev OpensInC : ℕ → (out′ : List ℕ) → Type 0
+    OpensInC r o =
+        (r ≡ packed (openOf of instance key nonce assoc text tag out .number) (openOf of instance key nonce assoc text tag out .rounds))
+        × (o ≡ openOut of instance key nonce assoc text tag out)
 
--- ---- opening what sealing gave gives the message back
+    pub one-opening-in-c : (r r′ : ℕ) (o o′ : List ℕ) → OpensInC r o → OpensInC r′ o′ → (r ≡ r′) × (o ≡ o′)
+    one-opening-in-c r r′ o o′ h k = (h .0 ∙ sym (k .0), h .1 ∙ sym (k .1))
 
-module _ (instance : ℕ) (key nonce assoc text out tag : List ℕ) (none : refusalFor instance key nonce assoc text out tag ≡ 0)
-    (buffer : List ℕ) (long : length buffer ≡ length text) where
-  abbrev cipher : List ℕ
-  cipher = seal (paramsOf instance) key nonce assoc text .cipher
+  -- ---- a beginning that is not refused gives a record of which all this is said
 
-  abbrev made : List ℕ
-  made = seal (paramsOf instance) key nonce assoc text .tag
+  module _ (instance direction : ℕ) (key nonce tag : List ℕ) (a m : ℕ) (assoc text out : List ℕ)
+      (ha : length assoc ≡ a) (ht : length text ≡ m) (ho : length out ≡ m) (way : (direction ≡ 1) ⊎ (direction ≡ 2)) where
+    begins-as : (r : ℕ) → r ≤ 7 → (r ≡ 0 → limitsRefusal of instance (length key) (length nonce) a m ≡ 0)
+        → begunOr r (begunJob of instance direction key nonce tag a m) .number ≡ 100 → Begun of (begunOr r (begunJob of instance direction key nonce tag a m) .job) assoc text out
+    unfolding begunJob
+    begins-as r small limits e =
+        let none = begun-number r (begunJob of instance direction key nonce tag a m) small e in
+        let l = limits-none of instance (length key) (length nonce) a m (limits none) in
+        subst (λ (y : Job). Begun of y assoc text out) (sym (begun-job r (begunJob of instance direction key nonce tag a m) none))
+        (record {
+          isKnown = l .0;
+          isDirection = way;
+          assocLimit = l .3;
+          textLimit = l .4;
+          isBegun = refl;
+          assocLong = ha;
+          textLong = ht;
+          outLong = ho;
+        })
 
-  h : Fits instance key nonce assoc text out tag
-  h = fits instance key nonce assoc text out tag none
+  module _ (instance : ℕ) (key nonce : List ℕ) (a m : ℕ) (assoc text out : List ℕ) (ha : length assoc ≡ a) (ht : length text ≡ m) (ho : length out ≡ m) where
+    pub sealing-begins : beginSealOf of instance key nonce a m .number ≡ 100 → Begun of (beginSealOf of instance key nonce a m .job) assoc text out
+    unfolding beginSealOf
+    sealing-begins e =
+        begins-as instance 1 key nonce (replicate 16 0) a m assoc text out ha ht ho (inl refl) (limitsRefusal of instance (length key) (length nonce) a m)
+        (omega (arith, limits-small of instance (length key) (length nonce) a m)) (λ z. z) e
 
-  cipher-long : length cipher ≡ length text
-  unfolding seal
-  cipher-long = enc-length (paramsOf instance) (lawful-instance instance) key nonce (h .keyLong) (h .nonceLong) text
+    pub opening-begins : (tag : List ℕ) → beginOpenOf of instance key nonce tag a m .number ≡ 100 → Begun of (beginOpenOf of instance key nonce tag a m .job) assoc text out
+    unfolding beginOpenOf
+    opening-begins tag e =
+        let r = limitsRefusal of instance (length key) (length nonce) a m in
+        begins-as instance 2 key nonce tag a m assoc text out ha ht ho (inr refl) (orElse r (tagRefusal (length tag)))
+        (refusal-small r (tagRefusal (length tag)) (omega (arith, limits-small of instance (length key) (length nonce) a m)) (tag-small (length tag)))
+        (λ z. or-none r (tagRefusal (length tag)) z .0) e
 
-  made-long : length made ≡ 16
-  unfolding seal
-  made-long = length-mac (paramsOf instance) (lawful-instance instance) key nonce assoc cipher (h .keyLong) (h .nonceLong)
+module _ (of : ℕ → Scheme) (laws : (i : ℕ) → LawfulScheme (of i)) where
+  -- ---- a budget of 0, and a slice after the end
 
-  taken : refusalFor instance key nonce assoc cipher buffer made ≡ 0
-  taken =
-      unrefused instance key nonce assoc cipher buffer made
-      (subst (λ (n : ℕ). limitsRefusal instance (length key) (length nonce) (length assoc) n ≡ 0) (sym cipher-long) (h .limits)) (long ∙ sym cipher-long) made-long
+  module _ (j : Job) (assoc text out : List ℕ) (h : Begun of j assoc text out) (n : ℕ) where
+    abbrev reached : List ℕ
+    reached = halted (courseOf of j assoc text) n (machineOf j out) .out
 
-  back : Opens instance key nonce assoc cipher made buffer (record { number = 0; rounds = Total instance assoc text }) text
-  unfolding openOf openOut openedAnswer openedOut
-  back =
-      let p = paramsOf instance in
-      let yes = eq-eqb (refusalFor instance key nonce assoc cipher buffer made) 0 taken in
-      let message = open-sealed p (lawful-instance instance) key nonce (h .keyLong) (h .nonceLong) assoc text in (
-        sym (ap (λ (n : ℕ). record { number = 0; rounds = encryptRounds p n + verifyRounds p (length assoc) n }) cipher-long)
-            ∙ ap (openedAnswer p (length assoc) (length cipher)) (sym message) ∙ rw yes,
-        ap (λ (u : Opened). openedOut u buffer) (sym message) ∙ rw yes,
-      )
+    pub no-budget : n < lasts (courseOf of j assoc text) (machineOf j out)
+        → sliceOf of (at of laws j assoc text out h n) assoc text reached 0 ≡ record { number = 100; rounds = 0; job = at of laws j assoc text out h n }
+    unfolding numberOf
+    no-budget l =
+        let c = courseOf of j assoc text in
+        let m = machineOf j out in
+        let e : n + 0 ≡ n = omega arith in
+        let going : endedBy c (n + 0) m ≡ 0 = ap (λ (k : ℕ). endedBy c k m) e ∙ unended c (law of laws j assoc text out h) m n l in
+        let none : min (n + 0) (lasts c m) - n ≡ 0 = omega (arith, l) in
+        slice-at of laws j assoc text out h n 0 .0
+        ∙ ap (λ (b : Bool). pick b (record { number = numberOf (endedBy c (n + 0) m); rounds = min (n + 0) (lasts c m) - n; job = at of laws j assoc text out h (n + 0) }) (record { number = 10; rounds = 0; job = at of laws j assoc text out h n }))
+        (lt-ltb n (lasts c m) l)
+        ∙ (λ i. record { number = numberOf (going i); rounds = none i; job = at of laws j assoc text out h (e i) })
 
-  pub message-back : Opens instance key nonce assoc (sealOut instance key nonce assoc text out tag) (sealTag instance key nonce assoc text out tag) buffer
-      (record { number = 0; rounds = Total instance assoc text }) text
-  unfolding sealOut sealTag
-  message-back =
-      let yes = eq-eqb (refusalFor instance key nonce assoc text out tag) 0 none in
-      subst (λ (b : Bool). Opens instance key nonce assoc (pick b cipher out) (pick b made tag) buffer (record { number = 0; rounds = Total instance assoc text }) text) (sym yes) back
+    pub after-the-end : (budget : ℕ) → lasts (courseOf of j assoc text) (machineOf j out) ≤ n
+        → (sliceOf of (at of laws j assoc text out h n) assoc text reached budget ≡ record { number = 10; rounds = 0; job = at of laws j assoc text out h n })
+        × (outOf of (at of laws j assoc text out h n) assoc text reached budget ≡ reached)
+    unfolding halted
+    after-the-end budget l =
+        let c = courseOf of j assoc text in
+        let m = machineOf j out in
+        let past : min (n + budget) (lasts c m) ≡ min n (lasts c m) = omega (arith, l) in (
+          slice-at of laws j assoc text out h n budget .0
+              ∙ ap (λ (b : Bool). pick b (record { number = numberOf (endedBy c (n + budget) m); rounds = min (n + budget) (lasts c m) - n; job = at of laws j assoc text out h (n + budget) }) (record { number = 10; rounds = 0; job = at of laws j assoc text out h n }))
+              (le-ltb n (lasts c m) l),
+          slice-at of laws j assoc text out h n budget .1 ∙ ap (λ (k : ℕ). stopped (row (parts c)) k m .out) past,
+        )
+
+module _ (of : ℕ → Scheme) (laws : (i : ℕ) → LawfulScheme (of i)) (room : (i : ℕ) → of i .n ≤ 50) where
+  -- ---- slices to the end give what the whole call gives
+
+  -- a job begun, and its row of budgets
+  abbrev Row : (instance direction : ℕ) → (key nonce tag assoc text out : List ℕ) → List ℕ → Progress
+  Row instance direction key nonce tag assoc text out bs =
+      sliced of assoc text bs (record { job = begunJob of instance direction key nonce tag (length assoc) (length text); out = out; rounds = 0 })
+
+  abbrev Total : (instance : ℕ) → (seals : Bool) → (assoc text : List ℕ) → ℕ
+  Total instance seals assoc text = allCount (of instance) seals (length assoc) (length text)
+
+  module _ (instance direction : ℕ) (key nonce tag assoc text out other : List ℕ) (h : Fits of instance key nonce assoc text out other)
+      (way : (direction ≡ 1) ⊎ (direction ≡ 2)) (bs : List ℕ) where
+    abbrev j : Job
+    j = begunJob of instance direction key nonce tag (length assoc) (length text)
+
+    is-begun : Begun of j assoc text out
+    unfolding begunJob
+    is-begun =
+        record {
+          isKnown = h .isKnown;
+          isDirection = way;
+          assocLimit = h .assocLimit;
+          textLimit = h .textLimit;
+          isBegun = refl;
+          assocLong = refl;
+          textLong = refl;
+          outLong = h .outLong;
+        }
+
+    -- what the slices leave is what as many rounds in one go leave
+    row-runs : (Row instance direction key nonce tag assoc text out bs .out ≡ ran of j assoc text out (sum bs) .machine .out)
+        × (Row instance direction key nonce tag assoc text out bs .job .tag ≡ ran of j assoc text out (sum bs) .machine .tag)
+        × (_≡_ {A = Answer} (record { number = numberOf (Row instance direction key nonce tag assoc text out bs .job .ending); rounds = Row instance direction key nonce tag assoc text out bs .rounds })
+        (record { number = numberOf (ran of j assoc text out (sum bs) .ending); rounds = ran of j assoc text out (sum bs) .done }))
+    unfolding at following begunJob
+    row-runs =
+        let e = budgets of laws j assoc text out is-begun bs in
+        let r = sym (runs of laws room instance direction key nonce tag assoc text out (h .keyLong) (h .nonceLong) (h .outLong) (sum bs)) in (
+          ap Progress.out e ∙ (λ i. r i .machine .out),
+          ap (λ (q : Progress). q .job .tag) e ∙ (λ i. r i .machine .tag),
+          ap (λ (q : Progress). record { number = numberOf (q .job .ending); rounds = q .rounds }) e ∙ (λ i. record { number = numberOf (r i .ending); rounds = r i .done }),
+        )
+
+  module _ (instance : ℕ) (key nonce assoc text out tag : List ℕ) (none : refusalFor of instance key nonce assoc text out tag ≡ 0)
+      (bs : List ℕ) (enough : Total instance true assoc text ≤ sum bs) where
+    abbrev q : Progress
+    q = Row instance 1 key nonce (replicate 16 0) assoc text out bs
+
+    pub sealed-in-slices : Seals of instance key nonce assoc text out tag (record { number = numberOf (q .job .ending); rounds = q .rounds }) (q .out) (q .job .tag)
+    unfolding sealOf sealOut sealTag
+    sealed-in-slices =
+        let h = fits of instance key nonce assoc text out tag none in
+        let z : List ℕ = replicate 16 0 in
+        let r = row-runs instance 1 key nonce z assoc text out tag h (inl refl) bs in
+        let yes = eq-eqb (refusalFor of instance key nonce assoc text out tag) 0 none in (
+          r .2 ∙ sealing-answer of laws room instance 1 key nonce z assoc text out (h .keyLong) (h .nonceLong) (h .outLong) (sum bs) enough refl ∙ rw yes,
+          r .0 ∙ sealing-writes of laws room instance 1 key nonce z assoc text out (h .keyLong) (h .nonceLong) (h .outLong) (sum bs) enough refl ∙ rw yes,
+          r .1 ∙ sealing-tags of laws room instance 1 key nonce z assoc text out (h .keyLong) (h .nonceLong) (h .outLong) (sum bs) enough refl ∙ rw yes,
+        )
+
+  module _ (instance : ℕ) (key nonce assoc text tag out : List ℕ) (none : refusalFor of instance key nonce assoc text out tag ≡ 0)
+      (bytes : Given (of instance) (record { sealing = false; key = key; nonce = nonce; assoc = assoc; text = text })) (tagged : Buffer 16 tag) (bs : List ℕ) (enough : Total instance false assoc text ≤ sum bs) where
+    abbrev q′ : Progress
+    q′ = Row instance 2 key nonce tag assoc text out bs
+
+    pub opened-in-slices : Opens of instance key nonce assoc text tag out (record { number = numberOf (q′ .job .ending); rounds = q′ .rounds }) (q′ .out)
+    unfolding openOf openOut
+    opened-in-slices =
+        let h = fits of instance key nonce assoc text out tag none in
+        let r = row-runs instance 2 key nonce tag assoc text out tag h (inr refl) bs in
+        let yes = eq-eqb (refusalFor of instance key nonce assoc text out tag) 0 none in (
+          r .2 ∙ opening-answer of laws room instance 2 key nonce tag assoc text out (h .keyLong) (h .nonceLong) (h .outLong) (sum bs) enough refl bytes tagged ∙ rw yes,
+          r .0 ∙ opening-writes of laws room instance 2 key nonce tag assoc text out (h .keyLong) (h .nonceLong) (h .outLong) (sum bs) enough refl bytes tagged ∙ rw yes,
+        )
+
+  -- ---- opening what sealing gave gives the message back
+
+  module _ (instance : ℕ) (key nonce assoc text out tag : List ℕ) (none : refusalFor of instance key nonce assoc text out tag ≡ 0)
+      (keys : Bytes key) (nonces : Bytes nonce) (assocs : Bytes assoc) (texts : Bytes text) (buffer : List ℕ) (long : length buffer ≡ length text) where
+    abbrev cipher : List ℕ
+    cipher = of instance .seal key nonce assoc text .cipher
+
+    abbrev made : List ℕ
+    made = of instance .seal key nonce assoc text .tag
+
+    h : Fits of instance key nonce assoc text out tag
+    h = fits of instance key nonce assoc text out tag none
+
+    cipher-long : length cipher ≡ length text
+    cipher-long = laws instance .cipherLong key nonce assoc text (h .keyLong) (h .nonceLong)
+
+    made-long : length made ≡ 16
+    made-long = laws instance .tagLong key nonce assoc text (h .keyLong) (h .nonceLong)
+
+    taken : refusalFor of instance key nonce assoc cipher buffer made ≡ 0
+    taken =
+        unrefused of instance key nonce assoc cipher buffer made
+        (subst (λ (n : ℕ). limitsRefusal of instance (length key) (length nonce) (length assoc) n ≡ 0) (sym cipher-long) (h .limits)) (long ∙ sym cipher-long) made-long
+
+    back : Opens of instance key nonce assoc cipher made buffer (record { number = 0; rounds = Total instance false assoc text }) text
+    unfolding openOf openOut openedAnswer openedOut
+    back =
+        let s = of instance in
+        let yes = eq-eqb (refusalFor of instance key nonce assoc cipher buffer made) 0 taken in
+        let message = laws instance .openSealed key nonce assoc text (record { long = h .keyLong; bytes = keys }) (record { long = h .nonceLong; bytes = nonces }) assocs texts in (
+          sym (ap (λ (n : ℕ). record { number = 0; rounds = allCount s false (length assoc) n }) cipher-long)
+              ∙ ap (openedAnswer s (length assoc) (length cipher)) (sym message) ∙ rw yes,
+          ap (λ (u : Opened). openedOut u buffer) (sym message) ∙ rw yes,
+        )
+
+    pub message-back : Opens of instance key nonce assoc (sealOut of instance key nonce assoc text out tag) (sealTag of instance key nonce assoc text out tag) buffer
+        (record { number = 0; rounds = Total instance false assoc text }) text
+    unfolding sealOut sealTag
+    message-back =
+        let yes = eq-eqb (refusalFor of instance key nonce assoc text out tag) 0 none in
+        subst (λ (b : Bool). Opens of instance key nonce assoc (pick b cipher out) (pick b made tag) buffer (record { number = 0; rounds = Total instance false assoc text }) text) (sym yes) back

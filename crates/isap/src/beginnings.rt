@@ -2,6 +2,7 @@
 ghost use mathlib.Core.Path.{_≡_};
 ghost use Prim.Native.Nat.{_≤_};
 ghost use lib.ListN.{length};
+ghost use Rattle.mode.specs.Isap.{schemeOf};
 ghost use Rattle.isap.specs.Beginnings.{limitsRefusal, tagRefusal, orElse, begunJob, noJob, beginSealOf, beginOpenOf};
 use crate::Begun;
 use crate::Job;
@@ -9,7 +10,7 @@ use plan::Place;
 
 // 1 to 5 in this order, from the instance and the lengths; 0 if none applies.
 pub fn limits_refusal(instance: u32, key: usize, nonce: usize, a: usize, m: usize) -> u32
-    ensures { λ r. ⌜ r ≡ limitsRefusal instance key nonce a m ⌝ }
+    ensures { λ r. ⌜ r ≡ limitsRefusal schemeOf instance key nonce a m ⌝ }
 {
     if instance < 1 {
         return 1;
@@ -72,7 +73,7 @@ fn begun_job(
     m: u32,
 ) -> Job
     requires { ⌜ (length (now key) ≡ 16) × (length (now nonce) ≡ 16) × (a ≤ 256) × (m ≤ 4096) ⌝ }
-    ensures { λ r. ⌜ r ≡ begunJob instance direction (now (key .entry)) (now (nonce .entry)) tag a m ⌝ }
+    ensures { λ r. ⌜ r ≡ begunJob schemeOf instance direction (now (key .entry)) (now (nonce .entry)) tag a m ⌝ }
 {
     let sealing = direction == 1;
     let place = plan::place_after(instance, sealing, a, m, 0);
@@ -129,7 +130,7 @@ fn refused(number: u32) -> Begun
 
 // Begins a sealing of a text of m bytes with a bytes of associated data.
 pub fn begin_seal(instance: u32, key: &[u8], nonce: &[u8], a: u32, m: u32) -> Begun
-    ensures { λ r. ⌜ r ≡ beginSealOf instance (now (key .entry)) (now (nonce .entry)) a m ⌝ }
+    ensures { λ r. ⌜ r ≡ beginSealOf schemeOf instance (now (key .entry)) (now (nonce .entry)) a m ⌝ }
 {
     let refusal = limits_refusal(instance, key.len(), nonce.len(), a as usize, m as usize);
     if refusal != 0 {
@@ -142,7 +143,7 @@ pub fn begin_seal(instance: u32, key: &[u8], nonce: &[u8], a: u32, m: u32) -> Be
 
 // Begins an opening, with the tag received.
 pub fn begin_open(instance: u32, key: &[u8], nonce: &[u8], tag: &[u8], a: u32, m: u32) -> Begun
-    ensures { λ r. ⌜ r ≡ beginOpenOf instance (now (key .entry)) (now (nonce .entry)) (now (tag .entry)) a m ⌝ }
+    ensures { λ r. ⌜ r ≡ beginOpenOf schemeOf instance (now (key .entry)) (now (nonce .entry)) (now (tag .entry)) a m ⌝ }
 {
     let limits = limits_refusal(instance, key.len(), nonce.len(), a as usize, m as usize);
     let refusal = or_else(limits, tag_refusal(tag.len()));

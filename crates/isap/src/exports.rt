@@ -1,6 +1,7 @@
 // For a host in C: numbers and byte slices only. A slice is a pointer and a length.
 ghost use mathlib.Core.Path.{_≡_};
 ghost use Rattle.plan.specs.Planned.{planOf};
+ghost use Rattle.mode.specs.Isap.{schemeOf};
 ghost use Rattle.isap.specs.Whole.{sealOf, sealOut, sealTag, openOf, openOut, packed};
 use crate::whole;
 
@@ -21,7 +22,7 @@ pub extern "C" fn isap_seal(
     out: &mut [u8],
     tag: &mut [u8],
 ) -> u64
-    ensures { λ r. ⌜ (r ≡ packed (sealOf instance (now (key .entry)) (now (nonce .entry)) (now (assoc .entry)) (now (text .entry)) (now (out .entry)) (now (tag .entry)) .number) (sealOf instance (now (key .entry)) (now (nonce .entry)) (now (assoc .entry)) (now (text .entry)) (now (out .entry)) (now (tag .entry)) .rounds)) × (now (out .exit) ≡ sealOut instance (now (key .entry)) (now (nonce .entry)) (now (assoc .entry)) (now (text .entry)) (now (out .entry)) (now (tag .entry))) × (now (tag .exit) ≡ sealTag instance (now (key .entry)) (now (nonce .entry)) (now (assoc .entry)) (now (text .entry)) (now (out .entry)) (now (tag .entry))) ⌝ }
+    ensures { λ r. ⌜ (r ≡ packed (sealOf schemeOf instance (now (key .entry)) (now (nonce .entry)) (now (assoc .entry)) (now (text .entry)) (now (out .entry)) (now (tag .entry)) .number) (sealOf schemeOf instance (now (key .entry)) (now (nonce .entry)) (now (assoc .entry)) (now (text .entry)) (now (out .entry)) (now (tag .entry)) .rounds)) × (now (out .exit) ≡ sealOut schemeOf instance (now (key .entry)) (now (nonce .entry)) (now (assoc .entry)) (now (text .entry)) (now (out .entry)) (now (tag .entry))) × (now (tag .exit) ≡ sealTag schemeOf instance (now (key .entry)) (now (nonce .entry)) (now (assoc .entry)) (now (text .entry)) (now (out .entry)) (now (tag .entry))) ⌝ }
 {
     let answer = whole::seal(instance, key, nonce, assoc, text, out, tag);
     pack(answer.number, answer.rounds)
@@ -37,7 +38,7 @@ pub extern "C" fn isap_open(
     tag: &[u8],
     out: &mut [u8],
 ) -> u64
-    ensures { λ r. ⌜ (r ≡ packed (openOf instance (now (key .entry)) (now (nonce .entry)) (now (assoc .entry)) (now (text .entry)) (now (tag .entry)) (now (out .entry)) .number) (openOf instance (now (key .entry)) (now (nonce .entry)) (now (assoc .entry)) (now (text .entry)) (now (tag .entry)) (now (out .entry)) .rounds)) × (now (out .exit) ≡ openOut instance (now (key .entry)) (now (nonce .entry)) (now (assoc .entry)) (now (text .entry)) (now (tag .entry)) (now (out .entry))) ⌝ }
+    ensures { λ r. ⌜ (r ≡ packed (openOf schemeOf instance (now (key .entry)) (now (nonce .entry)) (now (assoc .entry)) (now (text .entry)) (now (tag .entry)) (now (out .entry)) .number) (openOf schemeOf instance (now (key .entry)) (now (nonce .entry)) (now (assoc .entry)) (now (text .entry)) (now (tag .entry)) (now (out .entry)) .rounds)) × (now (out .exit) ≡ openOut schemeOf instance (now (key .entry)) (now (nonce .entry)) (now (assoc .entry)) (now (text .entry)) (now (tag .entry)) (now (out .entry))) ⌝ }
 {
     let answer = whole::open(instance, key, nonce, assoc, text, tag, out);
     pack(answer.number, answer.rounds)

@@ -1,16 +1,20 @@
 // How far a job can go in one go: some whole calls of a part that has many, or some rounds of one call.
 ghost use Prim.Native.Nat.{_*_, _≤_, _<_};
+ghost use Rattle.mode.specs.Isap.{schemeOf};
 ghost use Rattle.isap.specs.Turns.{At, Rest};
 ghost use Rattle.isap.specs.Sofar.{Fresh, Timed, Turned};
-ghost use Rattle.isap.specs.Rows.{roundsAt, Row, Rows, Further};
+ghost use Rattle.isap.specs.Rows.{roundsAt, Further};
+ghost use Rattle.isap.specs.Isap.{Many, Rows};
 use crate::Job;
+use crate::calls::go;
+use crate::calls::has_row;
 use crate::turns::changed;
 use crate::turns::turn;
 use plan::Place;
 
 // The whole calls that the budget allows, up to the last of the part, or 0 where a single call is next.
 fn row_calls(job: Job, left: u32) -> u32
-    requires { ⌜ (At job (job .place)) × (job .assoc ≤ 256) × (job .text ≤ 4096) ⌝ }
+    requires { ⌜ (At schemeOf job (job .place)) × (job .assoc ≤ 256) × (job .text ≤ 4096) ⌝ }
     ensures { λ r. ⌜ Rows job left r ⌝ }
 {
     let at = job.place;
@@ -20,60 +24,43 @@ fn row_calls(job: Job, left: u32) -> u32
     if at.call == 0 {
         return 0;
     }
-    let sealing = job.direction == 1;
-    let kind = plan::kind_of(sealing, at.part);
-    if !rows::has_many(kind) {
+    if !has_row(job) {
         return 0;
     }
-    let last = plan::count_of(job.instance, job.assoc, job.text, kind) - 1;
+    let sealing = job.direction == 1;
+    let last = plan::count_at(job.instance, sealing, job.assoc, job.text, at.part) - 1;
     let calls = last - at.call;
-    let fit = left / plan::rounds_of(job.instance, kind);
+    let fit = left / plan::rounds_at(job.instance, sealing, at.part);
     if fit < calls { fit } else { calls }
 }
 
 // The record after these calls.
 fn row(job: Job, assoc: &[u8], text: &[u8], out: &mut [u8], calls: u32) -> Job
-    requires { ⌜ (Fresh job (now assoc) (now text) (now out)) × (Row job calls) ⌝ }
-    ensures { λ r. ⌜ Turned job (now (assoc .entry)) (now (text .entry)) (now (out .entry)) (calls * roundsAt job) r (now (out .exit)) ⌝ }
+    requires { ⌜ (Fresh schemeOf job (now assoc) (now text) (now out)) × (Many job calls) ⌝ }
+    ensures { λ r. ⌜ Turned schemeOf job (now (assoc .entry)) (now (text .entry)) (now (out .entry)) (calls * roundsAt schemeOf job) r (now (out .exit)) ⌝ }
 {
     let sealing = job.direction == 1;
     let at = job.place;
-    let kind = plan::kind_of(sealing, at.part);
-    let nonce = job.nonce;
-    let met = job.state;
-    let session = job.session;
-    let state = rows::go(
-        job.instance,
-        sealing,
-        kind,
-        at.call,
-        calls,
-        nonce,
-        met,
-        session,
-        assoc,
-        text,
-        out,
-    );
-    let done = job.done + calls * plan::rounds_of(job.instance, kind);
+    let state = go(job, assoc, text, out, calls);
+    let done = job.done + calls * plan::rounds_at(job.instance, sealing, at.part);
     let place = Place {
         part: at.part,
         call: at.call + calls,
         round: 0,
     };
     let tag = job.tag;
+    let session = job.session;
     changed(job, tag, done, place, job.ending, state, session)
 }
 
 // The rounds that can be done in one go: what is left of the call, or of the budget.
 fn rounds_now(job: Job, left: u32) -> u32
-    requires { ⌜ (At job (job .place)) × (0 < left) ⌝ }
-    ensures { λ r. ⌜ (r ≤ left) × (0 < r) × (Rest job r) ⌝ }
+    requires { ⌜ (At schemeOf job (job .place)) × (0 < left) ⌝ }
+    ensures { λ r. ⌜ (r ≤ left) × (0 < r) × (Rest schemeOf job r) ⌝ }
 {
     let at = job.place;
     let sealing = job.direction == 1;
-    let kind = plan::kind_of(sealing, at.part);
-    let rest = plan::rounds_of(job.instance, kind) - at.round;
+    let rest = plan::rounds_at(job.instance, sealing, at.part) - at.round;
     if left < rest { left } else { rest }
 }
 
@@ -87,8 +74,8 @@ pub fn further(
     front: u32,
     back: u32,
 ) -> Job
-    requires { ⌜ (Fresh job (now assoc) (now text) (now out)) × (Timed job front back) × (0 < left) ⌝ }
-    ensures { λ r. ⌜ Further job (now (assoc .entry)) (now (text .entry)) (now (out .entry)) left r (now (out .exit)) ⌝ }
+    requires { ⌜ (Fresh schemeOf job (now assoc) (now text) (now out)) × (Timed schemeOf job front back) × (0 < left) ⌝ }
+    ensures { λ r. ⌜ Further schemeOf job (now (assoc .entry)) (now (text .entry)) (now (out .entry)) left r (now (out .exit)) ⌝ }
 {
     let calls = row_calls(job, left);
     if 0 < calls {

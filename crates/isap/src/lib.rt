@@ -1,5 +1,6 @@
 // ISAP for a station: jobs begun and sliced by budgets of permutation rounds, and whole calls.
 mod beginnings;
+mod calls;
 mod exports;
 mod further;
 mod slices;

@@ -1,8 +1,7 @@
 // A slice: a record, what belongs to it, and a budget of rounds.
 ghost use mathlib.Core.Path.{_≡_};
-ghost use Prim.Native.Nat.{_+_, _≤_};
-ghost use Rattle.mode.specs.Instances.{paramsOf};
-ghost use Rattle.mode.specs.Counts.{frontCount, backCount};
+ghost use Prim.Native.Nat.{ℕ, _+_, _≤_};
+ghost use Rattle.mode.specs.Isap.{schemeOf};
 ghost use Rattle.isap.specs.Slices.{numberOf, refusalOf, sliceOf, outOf};
 use crate::Job;
 use crate::Sliced;
@@ -12,7 +11,7 @@ use crate::standing::stands;
 // The rounds up to the decision, and after it.
 fn front_rounds(instance: u32, sealing: bool, a: u32, m: u32) -> u32
     requires { ⌜ (a ≤ 256) × (m ≤ 4096) ⌝ }
-    ensures { λ r. ⌜ r ≡ frontCount (paramsOf instance) sealing a m ⌝ }
+    ensures { λ r. ⌜ r ≡ schemeOf instance .frontCount sealing a m ⌝ }
 {
     let v = plan::verify_rounds(instance, a, m);
     if !sealing {
@@ -23,7 +22,7 @@ fn front_rounds(instance: u32, sealing: bool, a: u32, m: u32) -> u32
 
 fn back_rounds(instance: u32, sealing: bool, m: u32) -> u32
     requires { ⌜ m ≤ 4096 ⌝ }
-    ensures { λ r. ⌜ r ≡ backCount (paramsOf instance) sealing m ⌝ }
+    ensures { λ r. ⌜ ((a : ℕ) → r ≡ schemeOf instance .backCount sealing a m) ⌝ }
 {
     if sealing {
         return 0;
@@ -46,7 +45,7 @@ fn number_of(ending: u32) -> u32
 
 // 9, 10 or 11, in this order; 0 if the slice can be done.
 fn refusal(job: Job, assoc: &[u8], text: &[u8], out: &[u8]) -> u32
-    ensures { λ r. ⌜ r ≡ refusalOf job (now (assoc .entry)) (now (text .entry)) (now (out .entry)) ⌝ }
+    ensures { λ r. ⌜ r ≡ refusalOf schemeOf job (now (assoc .entry)) (now (text .entry)) (now (out .entry)) ⌝ }
 {
     if !stands(job) {
         return 9;
@@ -68,7 +67,7 @@ fn refusal(job: Job, assoc: &[u8], text: &[u8], out: &[u8]) -> u32
 
 // Does the budget's rounds, or as many as the job still has.
 pub fn slice(job: Job, assoc: &[u8], text: &[u8], out: &mut [u8], budget: u32) -> Sliced
-    ensures { λ r. ⌜ (r ≡ sliceOf job (now (assoc .entry)) (now (text .entry)) (now (out .entry)) budget) × (now (out .exit) ≡ outOf job (now (assoc .entry)) (now (text .entry)) (now (out .entry)) budget) ⌝ }
+    ensures { λ r. ⌜ (r ≡ sliceOf schemeOf job (now (assoc .entry)) (now (text .entry)) (now (out .entry)) budget) × (now (out .exit) ≡ outOf schemeOf job (now (assoc .entry)) (now (text .entry)) (now (out .entry)) budget) ⌝ }
 {
     let refused = refusal(job, assoc, text, &out[..]);
     if refused != 0 {

@@ -4,6 +4,7 @@ ghost use mathlib.Core.Bool.{false};
 ghost use Prim.Native.Nat.{_+_, _≤_};
 ghost use lib.Dec.{eqb};
 ghost use Rattle.bits.specs.Pick.{pick};
+ghost use Rattle.mode.specs.Isap.{schemeOf};
 ghost use Rattle.isap.specs.Slices.{samePlace, placeRight, limitsRight, standsOf};
 use crate::Job;
 use plan::Place;
@@ -40,7 +41,7 @@ fn same_place(v: Place, w: Place) -> bool
 // The place is walked anew here, and only here: a slice moves it on.
 fn place_right(job: Job, sealing: bool) -> bool
     requires { ⌜ (job .assoc ≤ 256) × (job .text ≤ 4096) × (sealing ≡ eqb (job .direction) 1) ⌝ }
-    ensures { λ r. ⌜ r ≡ placeRight job ⌝ }
+    ensures { λ r. ⌜ r ≡ placeRight schemeOf job ⌝ }
 {
     let w = plan::place_after(job.instance, sealing, job.assoc, job.text, job.done);
     let v = job.place;
@@ -70,7 +71,7 @@ fn limits_right(instance: u32, direction: u32, a: u32, m: u32) -> bool
 }
 
 pub fn stands(job: Job) -> bool
-    ensures { λ r. ⌜ r ≡ standsOf job ⌝ }
+    ensures { λ r. ⌜ r ≡ standsOf schemeOf job ⌝ }
 {
     if !limits_right(job.instance, job.direction, job.assoc, job.text) {
         return false;

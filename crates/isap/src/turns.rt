@@ -1,93 +1,68 @@
 // Some rounds of the call at which a record stands.
 ghost use mathlib.Core.Path.{_≡_};
-ghost use Prim.Native.Nat.{_+_, _-_, _≤_};
-ghost use Rattle.bits.specs.Pick.{pick};
+ghost use Prim.Native.Nat.{_+_, _≤_};
 ghost use Rattle.stopping.specs.Course.{endingOf};
-ghost use Rattle.mode.specs.Instances.{paramsOf};
-ghost use Rattle.sponge.specs.Kinds.{CanEnter};
-ghost use Rattle.sponge.specs.Leaves.{CanLeave, outLeft, tagLeft};
-ghost use Rattle.isap.specs.Records.{inputOf, changed as changedTo};
-ghost use Rattle.isap.specs.Turns.{Ready, EnteredAt, acceptsOf};
+ghost use Rattle.mode.specs.Isap.{schemeOf};
+ghost use Rattle.isap.specs.Records.{changed as changedTo};
+ghost use Rattle.isap.specs.Turns.{Here, Ready, Meets, Left, Ends};
 ghost use Rattle.isap.specs.Sofar.{Timed, Turned};
 use crate::Job;
+use crate::calls::decide;
+use crate::calls::enter;
+use crate::calls::leave;
+use crate::calls::rounds;
 use plan::Place;
 use sponge::Two;
 
 // The state and the session bytes that the next round meets: a call's first round comes after what enters the call.
-fn entered(job: Job, kind: u32, assoc: &[u8], text: &[u8], out: &[u8]) -> Two
-    requires { ⌜ CanEnter (job .instance) kind (job .place .call) (inputOf job (now assoc) (now text)) (now out) ⌝ }
-    ensures { λ r. ⌜ EnteredAt job kind (now (assoc .entry)) (now (text .entry)) (now (out .entry)) (r .state) (r .session) ⌝ }
+fn entered(job: Job, assoc: &[u8], text: &[u8], out: &[u8]) -> Two
+    requires { ⌜ Here schemeOf job (now assoc) (now text) (now out) ⌝ }
+    ensures { λ r. ⌜ Meets schemeOf job (now (assoc .entry)) (now (text .entry)) (now (out .entry)) (r .state) (r .session) ⌝ }
 {
     let at = job.place;
+    if at.round == 0 {
+        return enter(job, assoc, text, out);
+    }
     let state = job.state;
     let session = job.session;
-    if at.round != 0 {
-        return Two { state, session };
-    }
-    let sealing = job.direction == 1;
-    let key = job.key;
-    let nonce = job.nonce;
-    sponge::enter(
-        job.instance,
-        sealing,
-        kind,
-        at.call,
-        key,
-        nonce,
-        state,
-        session,
-        assoc,
-        text,
-        out,
-    )
+    Two { state, session }
 }
 
 // What is left behind, if the call's last round is done: in the output, and as the tag that is handed back.
 fn left_behind(
     job: Job,
-    kind: u32,
     last: bool,
     state: [u8; 50],
+    session: [u8; 50],
+    assoc: &[u8],
     text: &[u8],
     out: &mut [u8],
 ) -> [u8; 16]
-    requires { ⌜ CanLeave (job .instance) kind (job .place .call) (now text) (now out) ⌝ }
-    ensures { λ r. ⌜ (r ≡ pick last (tagLeft (inputOf job (now (text .entry)) (now (text .entry))) kind state (job .tag)) (job .tag)) × (now (out .exit) ≡ pick last (outLeft (paramsOf (job .instance)) (inputOf job (now (text .entry)) (now (text .entry))) kind (job .place .call) state (now (out .entry))) (now (out .entry))) ⌝ }
+    requires { ⌜ Here schemeOf job (now assoc) (now text) (now out) ⌝ }
+    ensures { λ r. ⌜ Left schemeOf job last (now (assoc .entry)) (now (text .entry)) (now (out .entry)) state session (now (out .exit)) r ⌝ }
 {
-    let tag = job.tag;
     if !last {
+        let tag = job.tag;
         return tag;
     }
-    let at = job.place;
-    let sealing = job.direction == 1;
-    sponge::leave_out(out, text, job.instance, kind, at.call, state);
-    sponge::leave_tag(sealing, kind, state, tag)
-}
-
-// Whether an opening's tag is the one that the state has; a sealing makes its own.
-fn accepts(sealing: bool, tag: [u8; 16], state: [u8; 50]) -> bool
-    ensures { λ r. ⌜ r ≡ acceptsOf sealing state tag ⌝ }
-{
-    if sealing {
-        return true;
-    }
-    sponge::same_tag(tag, state)
+    leave(job, state, session, assoc, text, out)
 }
 
 // The ending that round `done` gives, with `front` rounds up to the decision and `back` after it.
 fn ending_after(
+    job: Job,
     done: u32,
     front: u32,
     back: u32,
-    sealing: bool,
     tag: [u8; 16],
     state: [u8; 50],
+    session: [u8; 50],
 ) -> u32
     requires { ⌜ front + back ≤ 15816 ⌝ }
-    ensures { λ r. ⌜ r ≡ endingOf front back done (acceptsOf sealing state tag) ⌝ }
+    ensures { λ r. ⌜ Ends schemeOf job done front back tag state session r ⌝ }
 {
     if done == front {
-        if !accepts(sealing, tag, state) {
+        if !decide(job, tag, state, session) {
             return 2;
         }
         if back == 0 {
@@ -99,15 +74,6 @@ fn ending_after(
         return 1;
     }
     0
-}
-
-// The permutation's index of round `round` of a call of `rounds`: the last ones are used.
-fn index_of(instance: u32, rounds: u32, round: u32) -> u32
-    requires { ⌜ (rounds ≤ paramsOf instance .most) × (round ≤ rounds) ⌝ }
-    ensures { λ r. ⌜ r ≡ paramsOf instance .most - rounds + round ⌝ }
-{
-    let q = plan::numbers_of(instance);
-    q.most - rounds + round
 }
 
 // The record with what rounds change in it.
@@ -150,22 +116,20 @@ pub fn turn(
     front: u32,
     back: u32,
 ) -> Job
-    requires { ⌜ (Ready job (now assoc) (now text) (now out) count) × (Timed job front back) ⌝ }
-    ensures { λ r. ⌜ Turned job (now (assoc .entry)) (now (text .entry)) (now (out .entry)) count r (now (out .exit)) ⌝ }
+    requires { ⌜ (Ready schemeOf job (now assoc) (now text) (now out) count) × (Timed schemeOf job front back) ⌝ }
+    ensures { λ r. ⌜ Turned schemeOf job (now (assoc .entry)) (now (text .entry)) (now (out .entry)) count r (now (out .exit)) ⌝ }
 {
     let sealing = job.direction == 1;
     let at = job.place;
-    let kind = plan::kind_of(sealing, at.part);
-    let rounds = plan::rounds_of(job.instance, kind);
-    let two = entered(job, kind, assoc, text, &out[..]);
-    let from = index_of(job.instance, rounds, at.round);
+    let of_call = plan::rounds_at(job.instance, sealing, at.part);
+    let two = entered(job, assoc, text, &out[..]);
     let met = two.state;
-    let state = sponge::permute(job.instance, met, from, count);
-    let last = at.round + count == rounds;
-    let tag = left_behind(job, kind, last, state, text, out);
-    let done = job.done + count;
-    let ending = ending_after(done, front, back, sealing, tag, state);
-    let place = plan::moved(job.instance, sealing, job.assoc, job.text, at, count);
     let session = two.session;
+    let state = rounds(job, met, session, count);
+    let last = at.round + count == of_call;
+    let tag = left_behind(job, last, state, session, assoc, text, out);
+    let done = job.done + count;
+    let ending = ending_after(job, done, front, back, tag, state, session);
+    let place = plan::moved(job.instance, sealing, job.assoc, job.text, at, count);
     changed(job, tag, done, place, ending, state, session)
 }

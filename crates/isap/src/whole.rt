@@ -1,6 +1,7 @@
 // Whole calls: a beginning and one slice, with a budget that ends every job.
 ghost use mathlib.Core.Path.{_≡_};
 ghost use lib.ListN.{length};
+ghost use Rattle.mode.specs.Isap.{schemeOf};
 ghost use Rattle.isap.specs.Whole.{outRefusal, wholeRefusal, sealOf, sealOut, sealTag, openOf, openOut};
 use crate::Answer;
 use crate::beginnings::begin_open;
@@ -30,7 +31,7 @@ fn whole_refusal(
     out: usize,
     tag: usize,
 ) -> u32
-    ensures { λ r. ⌜ r ≡ wholeRefusal instance key nonce a m out tag ⌝ }
+    ensures { λ r. ⌜ r ≡ wholeRefusal schemeOf instance key nonce a m out tag ⌝ }
 {
     let limits = limits_refusal(instance, key, nonce, a, m);
     let room = or_else(out_refusal(out, m), tag_refusal(tag));
@@ -58,7 +59,7 @@ pub fn seal(
     out: &mut [u8],
     tag: &mut [u8],
 ) -> Answer
-    ensures { λ r. ⌜ (r ≡ sealOf instance (now (key .entry)) (now (nonce .entry)) (now (assoc .entry)) (now (text .entry)) (now (out .entry)) (now (tag .entry))) × (now (out .exit) ≡ sealOut instance (now (key .entry)) (now (nonce .entry)) (now (assoc .entry)) (now (text .entry)) (now (out .entry)) (now (tag .entry))) × (now (tag .exit) ≡ sealTag instance (now (key .entry)) (now (nonce .entry)) (now (assoc .entry)) (now (text .entry)) (now (out .entry)) (now (tag .entry))) ⌝ }
+    ensures { λ r. ⌜ (r ≡ sealOf schemeOf instance (now (key .entry)) (now (nonce .entry)) (now (assoc .entry)) (now (text .entry)) (now (out .entry)) (now (tag .entry))) × (now (out .exit) ≡ sealOut schemeOf instance (now (key .entry)) (now (nonce .entry)) (now (assoc .entry)) (now (text .entry)) (now (out .entry)) (now (tag .entry))) × (now (tag .exit) ≡ sealTag schemeOf instance (now (key .entry)) (now (nonce .entry)) (now (assoc .entry)) (now (text .entry)) (now (out .entry)) (now (tag .entry))) ⌝ }
 {
     let a = assoc.len();
     let m = text.len();
@@ -91,7 +92,7 @@ pub fn open(
     tag: &[u8],
     out: &mut [u8],
 ) -> Answer
-    ensures { λ r. ⌜ (r ≡ openOf instance (now (key .entry)) (now (nonce .entry)) (now (assoc .entry)) (now (text .entry)) (now (tag .entry)) (now (out .entry))) × (now (out .exit) ≡ openOut instance (now (key .entry)) (now (nonce .entry)) (now (assoc .entry)) (now (text .entry)) (now (tag .entry)) (now (out .entry))) ⌝ }
+    ensures { λ r. ⌜ (r ≡ openOf schemeOf instance (now (key .entry)) (now (nonce .entry)) (now (assoc .entry)) (now (text .entry)) (now (tag .entry)) (now (out .entry))) × (now (out .exit) ≡ openOut schemeOf instance (now (key .entry)) (now (nonce .entry)) (now (assoc .entry)) (now (text .entry)) (now (tag .entry)) (now (out .entry))) ⌝ }
 {
     let a = assoc.len();
     let m = text.len();

@@ -5,35 +5,19 @@ use mathlib.Core.Bool.{Bool, true, false}
 use mathlib.Core.List.{List, [], _∷_, _++_, append-assoc, append-nil}
 use Prim.Native.Nat.{ℕ, zero, suc, _+_, _-_, _*_, _≤_}
 use native.Mathlib.Omega.{arith}
-use lib.Dec.{eqb}
 use lib.ListN.{length, take, drop, replicate, length-append, length-drop, length-replicate, drop-of-length-le}
 use lib.Seq.{take-at, drop-at, take-all, length-take-le, take-append-le, drop-append-le}
 use Rattle.bits.specs.Pick.{pick}
 use Rattle.bits.specs.Run.{front, length-once}
 use Rattle.bits.specs.Xors.{xors-front}
 use Rattle.bits.specs.Put.{put, putAt, length-put, length-putAt}
-use Rattle.stopping.specs.Stopped.{entered, left, one}
-use Rattle.stopping.specs.Parts.{Part, callOf}
-use Rattle.stopping.specs.Places.{Place, partAt, callAt}
-use Rattle.stopping.specs.Course.{Course, Core, endingOf, parts, frontRounds, backRounds, coreAt, standsAt, step, steps}
+use Rattle.scheme.specs.Machine.{with-tails, Exact}
+use Rattle.scheme.specs.Blind.{Blind, BlindPart, BlindParts, BlindCourse, blind-none, blind-append}
 use Rattle.mode.specs.Strings.{xorInto, xorAt, block, padded, bitAt, xorBit, same}
 use Rattle.mode.specs.StringLaws.{length-xorInto, length-xorAt, length-xorBit, length-block, xorInto-front, xorAt-front, xorBit-front}
 use Rattle.mode.specs.Params.{Params, LawfulParams, iv}
 use Rattle.mode.specs.PaperLaws.{length-start}
 use Rattle.mode.specs.Parts.{Machine, Input, onState, first, cipherOf, tagOf, part, nothing, keyStart, keyBits, keyEnd, written, texts, macStart, assocs, ciphers, setAside, macKeyStart, macKeyBits, macKeyEnd, takeBack, tagged, macEnd, encParts, macParts, sealingCourse, openingCourse, course}
-
--- a machine with t behind its state and v behind its session bytes
-abbrev pub with-tails : (t v : List ℕ) → Machine → Machine
-with-tails t v m = record { state = m .state ++ t; session = m .session ++ v; out = m .out; tag = m .tag }
-
--- the same of a job
-abbrev core-tails : (t v : List ℕ) → Core Machine → Core Machine
-core-tails t v j = record { machine = with-tails t v (j .machine); done = j .done; ending = j .ending }
-
--- the state and the session bytes are n bytes each
-pub record Exact (n : ℕ) (m : Machine) : Type 0 where
-  pub state : length (m .state) ≡ n
-  pub session : length (m .session) ≡ n
 
 -- ---- strings put into a longer buffer
 
@@ -56,110 +40,6 @@ front-within n f s t h =
     ∙ ap (λ (u : List ℕ). u ++ t)
     (sym (append-nil (f s))
     ∙ sym (ap₂ (λ (u v : List ℕ). f u ++ v) (take-all n s (omega arith)) (drop-of-length-le s {i = n} (omega arith))))
-
--- ---- what neither reads nor changes what lies beyond
-
-record Blind (n : ℕ) (f : Machine → Machine) : Type 0 where
-  keeps : (m : Machine) → Exact n m → Exact n (f m)
-  apart : (t v : List ℕ) (m : Machine) → Exact n m → f (with-tails t v m) ≡ with-tails t v (f m)
-
-record BlindPart (n : ℕ) (c : Part Machine) : Type 0 where
-  enter : (i : ℕ) → Blind n (c .enter i)
-  turn : (k : ℕ) → Blind n (c .turn k)
-  leave : (i : ℕ) → Blind n (c .leave i)
-
-unfoldable BlindParts : ℕ → List (Part Machine) → Type 0
-BlindParts n [] = Unit {0}
-BlindParts n (c ∷ cs) = BlindPart n c × BlindParts n cs
-
-record BlindCourse (n : ℕ) (c : Course Machine) : Type 0 where
-  all : BlindParts n (parts c)
-  decides : (t v : List ℕ) (m : Machine) → Exact n m → c .accepts (with-tails t v m) ≡ c .accepts m
-
-module _ (n : ℕ) where
-  blind-none : Blind n (λ m. m)
-  blind-none = record { keeps = λ m h. h; apart = λ t v m h. refl }
-
-  blind-then : (f g : Machine → Machine) → Blind n f → Blind n g → Blind n (λ m. g (f m))
-  blind-then f g a b =
-      record {
-        keeps = λ m h. b .keeps (f m) (a .keeps m h);
-        apart = λ t v m h. ap g (a .apart t v m h) ∙ b .apart t v (f m) (a .keeps m h);
-      }
-
-  blind-entered : (c : Part Machine) (i k : ℕ) → BlindPart n c → Blind n (entered (callOf c i) k)
-  unfolding entered callOf
-  blind-entered c i zero h = h .enter i
-  blind-entered c i (suc k) h = blind-none
-
-  blind-left : (c : Part Machine) (i k : ℕ) → BlindPart n c → Blind n (left (callOf c i) k)
-  unfolding left callOf
-  blind-left c i k h = go (eqb (suc k) (c .shape .rounds))
-    where
-      go : (b : Bool) → Blind n (λ m. pick b (c .leave i m) m)
-      go true = h .leave i
-      go false = blind-none
-
-  blind-one : (c : Part Machine) (i k : ℕ) → BlindPart n c → Blind n (one (callOf c i) k)
-  unfolding one callOf
-  blind-one c i k h =
-      blind-then (λ m. c .turn k (entered (callOf c i) k m)) (left (callOf c i) k)
-      (blind-then (entered (callOf c i) k) (c .turn k) (blind-entered c i k h) (h .turn k)) (blind-left c i k h)
-
-  -- past the last part nothing is done
-  blind-part : (cs : List (Part Machine)) → BlindParts n cs → (j : ℕ) → BlindPart n (partAt cs j)
-  unfolding partAt BlindParts
-  blind-part [] h j = record { enter = λ i. blind-none; turn = λ k. blind-none; leave = λ i. blind-none }
-  blind-part (c ∷ cs) h zero = h .0
-  blind-part (c ∷ cs) h (suc j) = blind-part cs (h .1) j
-
-  blind-at : (cs : List (Part Machine)) → BlindParts n cs → (w : Place) (k : ℕ) → Blind n (one (callAt cs w) k)
-  unfolding callAt
-  blind-at cs h w k = blind-one (partAt cs (w .part)) (w .call) k (blind-part cs h (w .part))
-
-  blind-append : (cs ds : List (Part Machine)) → BlindParts n cs → BlindParts n ds → BlindParts n (cs ++ ds)
-  unfolding BlindParts
-  blind-append [] ds h k = k
-  blind-append (c ∷ cs) ds h k = (h .0, blind-append cs ds (h .1) k)
-
-  -- ---- a job's steps
-
-  module _ (c : Course Machine) (h : BlindCourse n c) where
-    round-blind : (d : ℕ) → Blind n (one (callAt (parts c) (standsAt c d)) (standsAt c d .round))
-    round-blind d = blind-at (parts c) (h .all) (standsAt c d) (standsAt c d .round)
-
-    step-exact : (j : Core Machine) → Exact n (j .machine) → Exact n (step c j .machine)
-    unfolding step
-    step-exact j e = go (eqb (j .ending) 0)
-      where
-        go : (b : Bool) → Exact n (pick b (coreAt c (suc (j .done)) (one (callAt (parts c) (standsAt c (j .done))) (standsAt c (j .done) .round) (j .machine))) j .machine)
-        go true = round-blind (j .done) .keeps (j .machine) e
-        go false = e
-
-    step-tails : (t v : List ℕ) (j : Core Machine) → Exact n (j .machine) → step c (core-tails t v j) ≡ core-tails t v (step c j)
-    unfolding step
-    step-tails t v j e = go (eqb (j .ending) 0)
-      where
-        go : (b : Bool)
-            → pick b (coreAt c (suc (j .done)) (one (callAt (parts c) (standsAt c (j .done))) (standsAt c (j .done) .round) (with-tails t v (j .machine)))) (core-tails t v j)
-            ≡ core-tails t v (pick b (coreAt c (suc (j .done)) (one (callAt (parts c) (standsAt c (j .done))) (standsAt c (j .done) .round) (j .machine))) j)
-        go true =
-            let m = one (callAt (parts c) (standsAt c (j .done))) (standsAt c (j .done) .round) (j .machine) in
-            ap (coreAt c (suc (j .done))) (round-blind (j .done) .apart t v (j .machine) e)
-            ∙ ap
-            (λ (ok : Bool). record { machine = with-tails t v m; done = suc (j .done); ending = endingOf (frontRounds c) (backRounds c) (suc (j .done)) ok })
-            (h .decides t v m (round-blind (j .done) .keeps (j .machine) e))
-        go false = refl
-
-    all-exact : (k : ℕ) (j : Core Machine) → Exact n (j .machine) → Exact n (steps c k j .machine)
-    unfolding steps
-    all-exact zero j e = e
-    all-exact (suc k) j e = all-exact k (step c j) (step-exact j e)
-
-    all-tails : (t v : List ℕ) (k : ℕ) (j : Core Machine) → Exact n (j .machine) → steps c k (core-tails t v j) ≡ core-tails t v (steps c k j)
-    unfolding steps
-    all-tails t v zero j e = refl
-    all-tails t v (suc k) j e = ap (steps c k) (step-tails t v j e) ∙ all-tails t v k (step c j) (step-exact j e)
 
 -- ---- the parts
 
@@ -338,7 +218,7 @@ module _ (p : Params) (l : LawfulParams p) (x : Input) where
       ),
     )
 
-    course-blind : BlindCourse (p .n) (course p x)
+    pub course-blind : BlindCourse (p .n) (course p x)
     unfolding course sealingCourse openingCourse BlindParts
     course-blind = go (x .sealing)
       where
@@ -353,15 +233,3 @@ module _ (p : Params) (l : LawfulParams p) (x : Input) where
               all = blind-append (p .n) (macParts p x) (encParts p x) mac-blind enc-blind;
               decides = λ t v m h. ap (same (m .tag)) (take-within (m .state) t (h .state));
             }
-
--- ---- after any number of steps
-
-pub exact-steps : (p : Params) → LawfulParams p → (x : Input) → length (x .key) ≡ 16 → length (x .nonce) ≡ 16
-    → (k : ℕ) (j : Core Machine) → Exact (p .n) (j .machine) → Exact (p .n) (steps (course p x) k j .machine)
-exact-steps p l x hk hn k j e = all-exact (p .n) (course p x) (course-blind p l x hk hn) k j e
-
-pub beyond : (p : Params) → LawfulParams p → (x : Input) → length (x .key) ≡ 16 → length (x .nonce) ≡ 16
-    → (t v : List ℕ) (k : ℕ) (j : Core Machine) → Exact (p .n) (j .machine)
-    → steps (course p x) k (record { machine = with-tails t v (j .machine); done = j .done; ending = j .ending })
-    ≡ record { machine = with-tails t v (steps (course p x) k j .machine); done = steps (course p x) k j .done; ending = steps (course p x) k j .ending }
-beyond p l x hk hn t v k j e = all-tails (p .n) (course p x) (course-blind p l x hk hn) t v k j e

@@ -13,27 +13,15 @@ use Rattle.bits.specs.Pick.{pick}
 use Rattle.bits.specs.Bytes.{Bytes, bytes-zeros, bytes-take, bytes-drop, bytes-append, cons-bytes}
 use Rattle.bits.specs.Run.{front, length-once, bytes-once}
 use Rattle.bits.specs.Xors.{xors, length-xors, bytes-xors}
-use Rattle.stopping.specs.Course.{halted}
 use Rattle.stopping.specs.Kept.{KeepsPart, KeepsParts, keeps-parts}
-use Rattle.stopping.specs.Halts.{keeps-halted}
 use Rattle.bits.specs.Put.{put, putAt, length-put, length-putAt, bytes-put, bytes-putAt}
+use Rattle.scheme.specs.Machine.{Buffer, Sound}
+use Rattle.scheme.specs.Lawful.{KeepsCourse}
 use Rattle.mode.specs.Strings.{xorInto, xorAt, block, padded, bitAt, xorBit}
 use Rattle.mode.specs.StringLaws.{length-xorInto, length-xorAt, length-xorBit, length-block, bytes-xorInto, bytes-xorAt, bytes-xorBit, bytes-block, bytes-padded}
 use Rattle.mode.specs.Params.{Params, LawfulParams, iv}
 use Rattle.mode.specs.PaperLaws.{length-start}
 use Rattle.mode.specs.Parts.{Machine, Input, first, cipherOf, tagOf, part, nothing, keyStart, keyBits, keyEnd, written, texts, macStart, assocs, ciphers, setAside, macKeyStart, macKeyBits, macKeyEnd, takeBack, tagged, macEnd, encParts, macParts, sealingCourse, openingCourse, course}
-
--- a buffer of n bytes
-pub record Buffer (n : ℕ) (s : List ℕ) : Type 0 where
-  pub long : length s ≡ n
-  pub bytes : Bytes s
-
--- the four buffers of a machine, with a state and session bytes of so many bytes
-pub record Sound (ls lss lo : ℕ) (m : Machine) : Type 0 where
-  pub state : Buffer ls (m .state)
-  pub session : Buffer lss (m .session)
-  pub out : Buffer lo (m .out)
-  pub tag : Buffer 16 (m .tag)
 
 -- what a job is given
 pub record Given (x : Input) : Type 0 where
@@ -222,11 +210,11 @@ module _ (p : Params) (l : LawfulParams p) where
       ),
     )
 
-    -- after any number of rounds
-    pub sound-halted : (n : ℕ) (m : Machine) → P m → P (halted (course p x) n m)
+    -- whichever way a job goes
+    pub course-kept : KeepsCourse P (course p x)
     unfolding course sealingCourse openingCourse KeepsParts
-    sound-halted n m h = go (x .sealing)
+    course-kept = go (x .sealing)
       where
-        go : (b : Bool) → P (halted (pick b (sealingCourse p x) (openingCourse p x)) n m)
-        go true = keeps-halted P (sealingCourse p x) (keeps-parts P (encParts p x) (macParts p x) enc-kept mac-kept) tt n m h
-        go false = keeps-halted P (openingCourse p x) mac-kept enc-kept n m h
+        go : (b : Bool) → KeepsCourse P (pick b (sealingCourse p x) (openingCourse p x))
+        go true = record { front = keeps-parts P (encParts p x) (macParts p x) enc-kept mac-kept; back = tt }
+        go false = record { front = mac-kept; back = enc-kept }

@@ -11,4 +11,5 @@ pub mod Theorems
 pub mod Kept
 pub mod Beyond
 pub mod Instances
+pub mod Isap
 pub mod Checked

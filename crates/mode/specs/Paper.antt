@@ -6,6 +6,7 @@ use Prim.Native.Nat.{ℕ, _+_, _-_, _/_}
 use lib.ListN.{length, take, drop}
 use Rattle.bits.specs.Pick.{pick}
 use Rattle.bits.specs.Xors.{xors}
+pub use Rattle.scheme.specs.Machine.{Sealed, Opened, Opened.plaintext, Opened.refused}
 use Rattle.mode.specs.Strings.{xorInto, xorAt, cut, padded, bitsOf, bitAt, xorBit, same}
 use Rattle.mode.specs.Params.{Params, perm, iv}
 
@@ -65,19 +66,11 @@ isapMac p key nonce a c = take 16 (finished p key (hashed p nonce a c))
 
 -- ---- Algorithm 1, E: the ciphertext and the tag
 
-pub record Sealed : Type 0 where
-  pub cipher : List ℕ
-  pub tag : List ℕ
-
 unfoldable pub seal : Params → (key nonce a m : List ℕ) → Sealed
 seal p key nonce a m =
     record { cipher = isapEnc p key nonce m; tag = isapMac p key nonce a (isapEnc p key nonce m) }
 
 -- ---- Algorithm 2, D: the plaintext, or ⊥
-
-pub data Opened : Type 0 where
-  plaintext : List ℕ → Opened
-  refused : Opened
 
 unfoldable pub unseal : Params → (key nonce a c tag : List ℕ) → Opened
 unseal p key nonce a c tag = pick (same tag (isapMac p key nonce a c)) (plaintext (isapEnc p key nonce c)) refused

@@ -11,24 +11,10 @@ use Rattle.bits.specs.Xors.{xors}
 use Rattle.stopping.specs.Parts.{Part}
 use Rattle.stopping.specs.Course.{Course}
 use Rattle.bits.specs.Put.{put, putAt}
+pub use Rattle.scheme.specs.Machine.{Machine, Input}
 use Rattle.mode.specs.Strings.{xorInto, xorAt, block, padded, bitAt, xorBit, same}
 use Rattle.mode.specs.Params.{Params, iv}
 use Rattle.mode.specs.Paper.{blocks}
-
--- what a job works on: the sponge's state, the session bytes, the output, and the tag (in a sealing to be made, in an opening received)
-pub record Machine : Type 0 where
-  pub state : List ℕ
-  pub session : List ℕ
-  pub out : List ℕ
-  pub tag : List ℕ
-
--- what it is given; an opening is no sealing
-pub record Input : Type 0 where
-  pub sealing : Bool
-  pub key : List ℕ
-  pub nonce : List ℕ
-  pub assoc : List ℕ
-  pub text : List ℕ
 
 abbrev pub onState : (List ℕ → List ℕ) → Machine → Machine
 onState f m = record { state = f (m .state); session = m .session; out = m .out; tag = m .tag }

@@ -17,6 +17,9 @@ use Rattle.mode.specs.Paper.{blocks}
 use Rattle.mode.specs.Parts.{unlessEmpty}
 use Rattle.mode.specs.Instances.{isapA128a, isapA128, isapK128a, isapK128, paramsOf, known, by-instance}
 use Rattle.mode.specs.Counts.{rekeyRounds, verifyRounds, encryptRounds, encShapes, macShapes, frontShapes, backShapes, allShapes}
+use Rattle.scheme.specs.Scheme as schemes
+use Rattle.scheme.specs.Scheme.{partsOf}
+use Rattle.mode.specs.Isap.{isapScheme, schemeOf}
 use Rattle.plan.specs.declared.Numbers.{Numbers}
 use Rattle.plan.specs.declared.Planned.{Planned}
 use Rattle.plan.specs.Planned.{OfInstance, planOf, kindOf, shapeOf, encryptionCalls, macCalls}
@@ -54,6 +57,21 @@ module _ (p : Params) (a m : ℕ) where
   unfolding encShapes macShapes allShapes frontShapes backShapes
   eleven true = refl
   eleven false = refl
+
+-- ---- as the scheme has them
+
+pub eleven-parts : (i : ℕ) (s : Bool) → 11 ≡ partsOf (schemeOf i) s
+unfolding partsOf schemeOf isapScheme schemes.allShapes allShapes
+eleven-parts i s = sym (eleven (paramsOf i) 0 0 s)
+
+pub parts-most : (i : ℕ) (s : Bool) → partsOf (schemeOf i) s ≤ 255
+parts-most i s = omega (arith, eleven-parts i s)
+
+pub shape-of-part : (i : ℕ) (s : Bool) (a m part kind : ℕ) → part < partsOf (schemeOf i) s → kind ≡ kindOf s part
+    → shapeOf (paramsOf i) a m kind ≡ shapeAt (schemes.allShapes (schemeOf i) s a m) part
+unfolding schemeOf isapScheme schemes.allShapes allShapes
+shape-of-part i s a m part kind h k =
+    ap (shapeOf (paramsOf i) a m) k ∙ sym (parts-of (paramsOf i) a m s part (omega (arith, h, eleven-parts i s)))
 
 -- ---- bounds, over the four instances
 

@@ -9,11 +9,13 @@ use Rattle.bits.specs.Pick.{pick}
 use Rattle.stopping.specs.Parts.{Shape}
 use Rattle.stopping.specs.Places.{shapeAt}
 use Rattle.stopping.specs.Places as places
+use Rattle.scheme.specs.Scheme.{allShapes, partsOf}
 use Rattle.mode.specs.Params.{Params}
 use Rattle.mode.specs.Paper.{blocks}
 use Rattle.mode.specs.Parts.{unlessEmpty}
 use Rattle.mode.specs.Instances.{paramsOf, known}
 use Rattle.mode.specs.Counts.{verifyRounds, encryptRounds, encShapes, macShapes}
+use Rattle.mode.specs.Isap.{schemeOf}
 use Rattle.plan.specs.declared.Numbers.{Numbers}
 use Rattle.plan.specs.declared.Planned.{Planned}
 use Rattle.plan.specs.declared.places.Place.{Place}
@@ -71,6 +73,6 @@ placed w = record { part = w .part; call = w .call; round = w .round }
 pub record Standing (instance : ℕ) (sealing : Bool) (a m : ℕ) (at : Place) (count : ℕ) : Type 0 where
   pub assocLimit : a ≤ 256
   pub textLimit : m ≤ 4096
-  pub isPart : at .part < 11
-  pub isCall : at .call < shapeOf (paramsOf instance) a m (kindOf sealing (at .part)) .count
-  pub isRound : at .round + count ≤ shapeOf (paramsOf instance) a m (kindOf sealing (at .part)) .rounds
+  pub isPart : at .part < partsOf (schemeOf instance) sealing
+  pub isCall : at .call < shapeAt (allShapes (schemeOf instance) sealing a m) (at .part) .count
+  pub isRound : at .round + count ≤ shapeAt (allShapes (schemeOf instance) sealing a m) (at .part) .rounds

@@ -3,23 +3,23 @@ ghost use mathlib.Core.Path.{_≡_};
 ghost use Prim.Native.Nat.{ℕ, _+_, _≤_, _<_};
 ghost use Rattle.stopping.specs.Parts.{roundsIn};
 ghost use Rattle.stopping.specs.Places.{place, placeOf, startOf};
-ghost use Rattle.mode.specs.Instances.{paramsOf};
-ghost use Rattle.mode.specs.Counts.{allShapes};
+ghost use Rattle.scheme.specs.Scheme.{allShapes, partsOf};
+ghost use Rattle.mode.specs.Isap.{schemeOf};
 ghost use Rattle.plan.specs.Planned.{placed, Standing};
 use crate::places::Place;
-use crate::places::count_of;
-use crate::places::kind_of;
-use crate::places::rounds_of;
+use crate::places::count_at;
+use crate::places::parts_of;
+use crate::places::rounds_at;
 
 // The first place of the parts from `part` on: parts without calls are passed over.
 pub fn first_from(instance: u32, sealing: bool, a: u32, m: u32, part: u32) -> Place
-    requires { ⌜ (a ≤ 256) × (m ≤ 4096) × (part ≤ 11) ⌝ }
-    ensures { λ r. ⌜ r ≡ placed (startOf (allShapes (paramsOf instance) sealing a m) part) ⌝ }
+    requires { ⌜ (a ≤ 256) × (m ≤ 4096) × (part ≤ partsOf (schemeOf instance) sealing) ⌝ }
+    ensures { λ r. ⌜ r ≡ placed (startOf (allShapes (schemeOf instance) sealing a m) part) ⌝ }
 {
+    let parts = parts_of(instance, sealing);
     let mut j = part;
-    while j < 11 {
-        let kind = kind_of(sealing, j);
-        if 0 < count_of(instance, a, m, kind) {
+    while j < parts {
+        if 0 < count_at(instance, sealing, a, m, j) {
             return Place {
                 part: j,
                 call: 0,
@@ -29,7 +29,7 @@ pub fn first_from(instance: u32, sealing: bool, a: u32, m: u32, part: u32) -> Pl
         j += 1;
     }
     Place {
-        part: 11,
+        part: parts,
         call: 0,
         round: 0,
     }
@@ -38,11 +38,10 @@ pub fn first_from(instance: u32, sealing: bool, a: u32, m: u32, part: u32) -> Pl
 // The place after `count` rounds more of the call at which `at` stands.
 pub fn moved(instance: u32, sealing: bool, a: u32, m: u32, at: Place, count: u32) -> Place
     requires { ⌜ Standing instance sealing a m at count ⌝ }
-    ensures { λ r. ⌜ ((n : ℕ) → n < roundsIn (allShapes (paramsOf instance) sealing a m) → placeOf (allShapes (paramsOf instance) sealing a m) n ≡ place (at .part) (at .call) (at .round) → r ≡ placed (placeOf (allShapes (paramsOf instance) sealing a m) (n + count))) ⌝ }
+    ensures { λ r. ⌜ ((n : ℕ) → n < roundsIn (allShapes (schemeOf instance) sealing a m) → placeOf (allShapes (schemeOf instance) sealing a m) n ≡ place (at .part) (at .call) (at .round) → r ≡ placed (placeOf (allShapes (schemeOf instance) sealing a m) (n + count))) ⌝ }
 {
     let part = at.part;
-    let kind = kind_of(sealing, part);
-    let rounds = rounds_of(instance, kind);
+    let rounds = rounds_at(instance, sealing, part);
     let round = at.round + count;
     if round < rounds {
         return Place {
@@ -51,7 +50,7 @@ pub fn moved(instance: u32, sealing: bool, a: u32, m: u32, at: Place, count: u32
             round,
         };
     }
-    let calls = count_of(instance, a, m, kind);
+    let calls = count_at(instance, sealing, a, m, part);
     let call = at.call + 1;
     if call < calls {
         return Place {

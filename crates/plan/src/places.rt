@@ -2,8 +2,9 @@
 ghost use mathlib.Core.Path.{_≡_};
 ghost use Prim.Native.Nat.{ℕ, _≤_, _<_};
 ghost use Rattle.mode.specs.Instances.{paramsOf};
-ghost use Rattle.mode.specs.Counts.{allShapes};
-ghost use Rattle.stopping.specs.Places.{placeOf};
+ghost use Rattle.stopping.specs.Places.{placeOf, shapeAt};
+ghost use Rattle.scheme.specs.Scheme.{allShapes, partsOf};
+ghost use Rattle.mode.specs.Isap.{schemeOf};
 ghost use Rattle.plan.specs.Planned.{kindOf, shapeOf, encryptionCalls, macCalls, placed};
 use crate::blocks_of;
 use crate::numbers_of;
@@ -97,17 +98,41 @@ pub fn rounds_of(instance: u32, kind: u32) -> u32
     q.sh
 }
 
+// How many parts a direction has.
+pub fn parts_of(instance: u32, sealing: bool) -> u32
+    ensures { λ r. ⌜ (r ≡ partsOf (schemeOf instance) sealing) × (r ≤ 255) ⌝ }
+{
+    11
+}
+
+// How many calls a part has, by its place in the direction's order, and how many rounds each of them.
+pub fn count_at(instance: u32, sealing: bool, a: u32, m: u32, part: u32) -> u32
+    requires { ⌜ (a ≤ 256) × (m ≤ 4096) × (part < partsOf (schemeOf instance) sealing) ⌝ }
+    ensures { λ r. ⌜ (r ≡ shapeAt (allShapes (schemeOf instance) sealing a m) part .count) × (r ≤ 513) ⌝ }
+{
+    let kind = kind_of(sealing, part);
+    count_of(instance, a, m, kind)
+}
+
+pub fn rounds_at(instance: u32, sealing: bool, part: u32) -> u32
+    requires { ⌜ part < partsOf (schemeOf instance) sealing ⌝ }
+    ensures { λ r. ⌜ ((a m : ℕ) → r ≡ shapeAt (allShapes (schemeOf instance) sealing a m) part .rounds) × (0 < r) × (r ≤ 20) ⌝ }
+{
+    let kind = kind_of(sealing, part);
+    rounds_of(instance, kind)
+}
+
 // Where a job stands after n rounds; at its end, past the last part.
 pub fn place_after(instance: u32, sealing: bool, a: u32, m: u32, n: u32) -> Place
     requires { ⌜ (a ≤ 256) × (m ≤ 4096) ⌝ }
-    ensures { λ r. ⌜ r ≡ placed (placeOf (allShapes (paramsOf instance) sealing a m) n) ⌝ }
+    ensures { λ r. ⌜ r ≡ placed (placeOf (allShapes (schemeOf instance) sealing a m) n) ⌝ }
 {
+    let parts = parts_of(instance, sealing);
     let mut part: u32 = 0;
     let mut left = n;
-    while part < 11 {
-        let kind = kind_of(sealing, part);
-        let rounds = rounds_of(instance, kind);
-        let cells = count_of(instance, a, m, kind) * rounds;
+    while part < parts {
+        let rounds = rounds_at(instance, sealing, part);
+        let cells = count_at(instance, sealing, a, m, part) * rounds;
         if left < cells {
             return Place {
                 part,
@@ -119,7 +144,7 @@ pub fn place_after(instance: u32, sealing: bool, a: u32, m: u32, n: u32) -> Plac
         part += 1;
     }
     Place {
-        part: 11,
+        part: parts,
         call: 0,
         round: 0,
     }

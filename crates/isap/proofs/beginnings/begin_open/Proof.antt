@@ -5,7 +5,9 @@ use mathlib.Core.List.{List}
 use Prim.Native.Nat.{ℕ}
 use lib.ListN.{length}
 use borrow.Author.Needs.{needs}
+use Rattle.mode.specs.Isap.{schemeOf}
 use Rattle.isap.specs.Beginnings.{limitsRefusal, tagRefusal, orElse, begunJob, beginOpenOf}
+use Rattle.isap.specs.Isap.{key-bytes}
 use Rattle.isap.specs.Begun.{limits-none, tag-none, or-none}
 use Rattle.isap.proofs.Beginning.{refused-or, begun-or}
 use Rattle.isap.proofs.beginnings.begin_open.Statement.{statement}
@@ -20,8 +22,8 @@ returns c =
     let key = a .key .now in
     let nonce = a .nonce .now in
     let tag = a .tag .now in
-    refused-or _ (orElse (limitsRefusal (a .instance) (length key) (length nonce) (a .a) (a .m)) (tagRefusal (length tag)))
-    (begunJob (a .instance) 2 key nonce tag (a .a) (a .m))
+    refused-or _ (orElse (limitsRefusal schemeOf (a .instance) (length key) (length nonce) (a .a) (a .m)) (tagRefusal (length tag)))
+    (begunJob schemeOf (a .instance) 2 key nonce tag (a .a) (a .m))
     (d .or-else .ensures ∙ ap₂ orElse (l .limits-refusal .ensures) (d .before .tag-refusal .ensures)) (c .before .if1 .taken) _ (c .refused .ensures)
 
 sixteen-requires : tie.Need-sixteen-requires
@@ -38,8 +40,8 @@ begun-job-requires c κs =
     let l = d .before .before in
     let a = l .before .before .before .before .args in
     let q = or-none _ _ (sym (d .or-else .ensures) ∙ c .before .if1 .left) in
-    let t = limits-none (a .instance) (length (a .key .now)) (length (a .nonce .now)) (a .a) (a .m) (sym (l .limits-refusal .ensures) ∙ q .0) in
-    (t .1, t .2, t .3, t .4)
+    let t = limits-none schemeOf (a .instance) (length (a .key .now)) (length (a .nonce .now)) (a .a) (a .m) (sym (l .limits-refusal .ensures) ∙ q .0) in
+    (t .1 ∙ key-bytes (a .instance), t .2, t .3, t .4)
 
 returns-2 : tie.Need-returns-2
 unfolding beginOpenOf
@@ -50,10 +52,10 @@ returns-2 c =
     let key = a .key .now in
     let nonce = a .nonce .now in
     let tag = a .tag .now in
-    begun-or _ (orElse (limitsRefusal (a .instance) (length key) (length nonce) (a .a) (a .m)) (tagRefusal (length tag)))
-    (begunJob (a .instance) 2 key nonce tag (a .a) (a .m))
+    begun-or _ (orElse (limitsRefusal schemeOf (a .instance) (length key) (length nonce) (a .a) (a .m)) (tagRefusal (length tag)))
+    (begunJob schemeOf (a .instance) 2 key nonce tag (a .a) (a .m))
     (d .or-else .ensures ∙ ap₂ orElse (l .limits-refusal .ensures) (d .before .tag-refusal .ensures)) (c .before .before .if1 .left) _
-    (c .begun-job .ensures ∙ ap (λ (u : List ℕ). begunJob (a .instance) 2 key nonce u (a .a) (a .m)) (c .before .sixteen .ensures))
+    (c .begun-job .ensures ∙ ap (λ (u : List ℕ). begunJob schemeOf (a .instance) 2 key nonce u (a .a) (a .m)) (c .before .sixteen .ensures))
 
 pub begin-open-spec : {M : Type 1} → statement M
 begin-open-spec =

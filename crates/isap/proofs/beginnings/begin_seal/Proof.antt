@@ -3,7 +3,9 @@
 use mathlib.Core.Path.{sym, _∙_}
 use lib.ListN.{length, replicate}
 use borrow.Author.Needs.{needs}
+use Rattle.mode.specs.Isap.{schemeOf}
 use Rattle.isap.specs.Beginnings.{limitsRefusal, begunJob, beginSealOf}
+use Rattle.isap.specs.Isap.{key-bytes}
 use Rattle.isap.specs.Begun.{limits-none}
 use Rattle.isap.proofs.Beginning.{refused-or, begun-or}
 use Rattle.isap.proofs.beginnings.begin_seal.Statement.{statement}
@@ -16,15 +18,15 @@ returns c =
     let a = d .before .before .before .args in
     let key = a .key .now in
     let nonce = a .nonce .now in
-    refused-or _ (limitsRefusal (a .instance) (length key) (length nonce) (a .a) (a .m)) (begunJob (a .instance) 1 key nonce (replicate 16 0) (a .a) (a .m))
+    refused-or _ (limitsRefusal schemeOf (a .instance) (length key) (length nonce) (a .a) (a .m)) (begunJob schemeOf (a .instance) 1 key nonce (replicate 16 0) (a .a) (a .m))
     (d .limits-refusal .ensures) (c .before .if1 .taken) _ (c .refused .ensures)
 
 begun-job-requires : tie.Need-begun-job-requires
 begun-job-requires c κs =
     let d = c .before in
     let a = d .before .before .before .args in
-    let t = limits-none (a .instance) (length (a .key .now)) (length (a .nonce .now)) (a .a) (a .m) (sym (d .limits-refusal .ensures) ∙ c .if1 .left) in
-    (t .1, t .2, t .3, t .4)
+    let t = limits-none schemeOf (a .instance) (length (a .key .now)) (length (a .nonce .now)) (a .a) (a .m) (sym (d .limits-refusal .ensures) ∙ c .if1 .left) in
+    (t .1 ∙ key-bytes (a .instance), t .2, t .3, t .4)
 
 returns-2 : tie.Need-returns-2
 unfolding beginSealOf
@@ -33,7 +35,7 @@ returns-2 c =
     let a = d .before .before .before .args in
     let key = a .key .now in
     let nonce = a .nonce .now in
-    begun-or _ (limitsRefusal (a .instance) (length key) (length nonce) (a .a) (a .m)) (begunJob (a .instance) 1 key nonce (replicate 16 0) (a .a) (a .m))
+    begun-or _ (limitsRefusal schemeOf (a .instance) (length key) (length nonce) (a .a) (a .m)) (begunJob schemeOf (a .instance) 1 key nonce (replicate 16 0) (a .a) (a .m))
     (d .limits-refusal .ensures) (c .before .if1 .left) _ (c .begun-job .ensures)
 
 pub begin-seal-spec : {M : Type 1} → statement M

@@ -4,42 +4,43 @@ use mathlib.Core.Path.{_≡_}
 use Prim.Native.Nat.{ℕ, _≤_, _<_}
 use borrow.Author.Tests.{eq-eqb, ne-eqb, le-leb, lt-leb}
 use Rattle.mode.specs.Instances.{known}
+use Rattle.mode.specs.Isap.{isapScheme, schemeOf}
 use Rattle.isap.specs.Beginnings.{limitsRefusal}
 use Rattle.isap.proofs.beginnings.limits_refusal.Statement.{statement}
 use Rattle.isap.proofs.beginnings.limits_refusal.Tie as tie
 
 module _ (i k n a m : ℕ) where
-  one-low : i < 1 → 1 ≡ limitsRefusal i k n a m
-  unfolding limitsRefusal known
+  one-low : i < 1 → 1 ≡ limitsRefusal schemeOf i k n a m
+  unfolding limitsRefusal known schemeOf isapScheme
   one-low h = rw (lt-leb 1 i h)
 
   module _ (low : 1 ≤ i) where
-    one-high : 4 < i → 1 ≡ limitsRefusal i k n a m
-    unfolding limitsRefusal known
+    one-high : 4 < i → 1 ≡ limitsRefusal schemeOf i k n a m
+    unfolding limitsRefusal known schemeOf isapScheme
     one-high h = rw (le-leb 1 i low, lt-leb i 4 h)
 
     module _ (high : i ≤ 4) where
-      two : (k ≡ 16 → ⊥) → 2 ≡ limitsRefusal i k n a m
-      unfolding limitsRefusal known
+      two : (k ≡ 16 → ⊥) → 2 ≡ limitsRefusal schemeOf i k n a m
+      unfolding limitsRefusal known schemeOf isapScheme
       two f = rw (le-leb 1 i low, le-leb i 4 high, ne-eqb k 16 f)
 
       module _ (key : k ≡ 16) where
-        three : (n ≡ 16 → ⊥) → 3 ≡ limitsRefusal i k n a m
-        unfolding limitsRefusal known
+        three : (n ≡ 16 → ⊥) → 3 ≡ limitsRefusal schemeOf i k n a m
+        unfolding limitsRefusal known schemeOf isapScheme
         three f = rw (le-leb 1 i low, le-leb i 4 high, eq-eqb k 16 key, ne-eqb n 16 f)
 
         module _ (nonce : n ≡ 16) where
-          four : 256 < a → 4 ≡ limitsRefusal i k n a m
-          unfolding limitsRefusal known
+          four : 256 < a → 4 ≡ limitsRefusal schemeOf i k n a m
+          unfolding limitsRefusal known schemeOf isapScheme
           four h = rw (le-leb 1 i low, le-leb i 4 high, eq-eqb k 16 key, eq-eqb n 16 nonce, lt-leb a 256 h)
 
           module _ (assoc : a ≤ 256) where
-            five : 4096 < m → 5 ≡ limitsRefusal i k n a m
-            unfolding limitsRefusal known
+            five : 4096 < m → 5 ≡ limitsRefusal schemeOf i k n a m
+            unfolding limitsRefusal known schemeOf isapScheme
             five h = rw (le-leb 1 i low, le-leb i 4 high, eq-eqb k 16 key, eq-eqb n 16 nonce, le-leb a 256 assoc, lt-leb m 4096 h)
 
-            none : m ≤ 4096 → 0 ≡ limitsRefusal i k n a m
-            unfolding limitsRefusal known
+            none : m ≤ 4096 → 0 ≡ limitsRefusal schemeOf i k n a m
+            unfolding limitsRefusal known schemeOf isapScheme
             none h = rw (le-leb 1 i low, le-leb i 4 high, eq-eqb k 16 key, eq-eqb n 16 nonce, le-leb a 256 assoc, le-leb m 4096 h)
 
 returns : tie.Need-returns

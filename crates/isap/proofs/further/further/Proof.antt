@@ -4,13 +4,14 @@ use Prim.Native.Nat.{_<_}
 use native.Mathlib.Nat.{mul-pos}
 use native.Mathlib.Omega.{arith}
 use borrow.Author.Needs.{needs}
+use Rattle.mode.specs.Isap.{schemeOf, lawful-scheme}
 use Rattle.isap.specs.Sofar.{fresh-at, fresh-ready}
 use Rattle.isap.specs.Rows.{roundsAt}
 use Rattle.isap.proofs.further.further.Statement.{statement}
 use Rattle.isap.proofs.further.further.Tie as tie
 
 row-calls-requires : tie.Need-row-calls-requires
-row-calls-requires c κs = let h = c .before .before .before .pre .0 in (fresh-at h, h .assocLimit, h .textLimit)
+row-calls-requires c κs = let h = c .before .before .before .pre .0 in (fresh-at schemeOf lawful-scheme h, h .assocLimit, h .textLimit)
 
 row-requires : tie.Need-row-requires
 row-requires c κs = (c .before .before .before .before .before .before .pre .0, c .before .before .row-calls .ensures .isRow (c .before .if1 .taken))
@@ -20,18 +21,18 @@ returns c =
     let r = c .before .before in
     let n = r .before .before .before .row-calls .ensures in
     let some = r .before .before .if1 .taken in
-    let at = fresh-at (c .before .before .before .before .before .before .before .before .before .pre .0) in
-    let rounds : 0 < roundsAt (c .before .before .before .before .before .before .before .before .before .args .job) = omega (arith, at .isRound) in
+    let at = fresh-at schemeOf lawful-scheme (c .before .before .before .before .before .before .before .before .before .pre .0) in
+    let rounds : 0 < roundsAt schemeOf (c .before .before .before .before .before .before .before .before .before .args .job) = omega (arith, at .isRound) in
     record { count = _; some = mul-pos some rounds; fits = n .fits; turned = r .row .ensures }
 
 rounds-now-requires : tie.Need-rounds-now-requires
-rounds-now-requires c κs = let z = c .before .before .before .before .before in (fresh-at (z .pre .0), z .pre .2)
+rounds-now-requires c κs = let z = c .before .before .before .before .before in (fresh-at schemeOf lawful-scheme (z .pre .0), z .pre .2)
 
 turn-requires : tie.Need-turn-requires
 turn-requires c κs =
     let z = c .before .before .before .before .before .before .before in
     let n = c .before .rounds-now .ensures in
-    (fresh-ready (z .pre .0) _ (n .1) (n .2 .fits), z .pre .1)
+    (fresh-ready schemeOf lawful-scheme (z .pre .0) _ (n .1) (n .2 .fits), z .pre .1)
 
 returns-2 : tie.Need-returns-2
 returns-2 c =

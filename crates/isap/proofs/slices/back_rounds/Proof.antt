@@ -2,16 +2,17 @@
 -- Assumes nothing.
 use borrow.Author.Needs.{needs}
 use Rattle.mode.specs.Counts.{backCount}
+use Rattle.mode.specs.Isap.{isapScheme, schemeOf}
 use Rattle.isap.proofs.slices.back_rounds.Statement.{statement}
 use Rattle.isap.proofs.slices.back_rounds.Tie as tie
 
 returns : tie.Need-returns
-unfolding backCount
-returns c = rw (c .if1 .taken)
+unfolding schemeOf isapScheme backCount
+returns c a = rw (c .if1 .taken)
 
 returns-2 : tie.Need-returns-2
-unfolding backCount
-returns-2 c = rw (c .before .if1 .left, c .encrypt-rounds .ensures .0)
+unfolding schemeOf isapScheme backCount
+returns-2 c a = rw (c .before .if1 .left, c .encrypt-rounds .ensures .0)
 
 pub back-rounds-spec : {M : Type 1} → statement M
 back-rounds-spec = tie.close (tie.spec returns (λ c κs. search needs) returns-2)

@@ -8,27 +8,28 @@ use lib.ListN.{length}
 use borrow.Author.Needs.{needs}
 use borrow.Author.Tests.{eq-eqb, ne-eqb, not-true, not-false}
 use Rattle.bits.specs.Every.{passes}
+use Rattle.mode.specs.Isap.{schemeOf}
 use Rattle.isap.specs.declared.Job.{Job}
 use Rattle.isap.specs.Slices.{standsOf, lentOf, refusalOf}
 use Rattle.isap.proofs.slices.refusal.Statement.{statement}
 use Rattle.isap.proofs.slices.refusal.Tie as tie
 
 module _ (j : Job) (assoc text out : List ℕ) where
-  nine : standsOf j ≡ false → 9 ≡ refusalOf j assoc text out
+  nine : standsOf schemeOf j ≡ false → 9 ≡ refusalOf schemeOf j assoc text out
   unfolding refusalOf
   nine e = rw e
 
-  module _ (s : standsOf j ≡ true) where
-    ten : (j .ending ≡ 0 → ⊥) → 10 ≡ refusalOf j assoc text out
+  module _ (s : standsOf schemeOf j ≡ true) where
+    ten : (j .ending ≡ 0 → ⊥) → 10 ≡ refusalOf schemeOf j assoc text out
     unfolding refusalOf
     ten e = rw (s, ne-eqb (j .ending) 0 e)
 
     module _ (e : j .ending ≡ 0) where
-      eleven : lentOf j assoc text out ≡ false → 11 ≡ refusalOf j assoc text out
+      eleven : lentOf j assoc text out ≡ false → 11 ≡ refusalOf schemeOf j assoc text out
       unfolding refusalOf
       eleven l = rw (s, eq-eqb (j .ending) 0 e, l)
 
-      none : lentOf j assoc text out ≡ true → 0 ≡ refusalOf j assoc text out
+      none : lentOf j assoc text out ≡ true → 0 ≡ refusalOf schemeOf j assoc text out
       unfolding refusalOf
       none l = rw (s, eq-eqb (j .ending) 0 e, l)
 

@@ -5,6 +5,8 @@ use mathlib.Core.Logic.{_⊎_, inl, inr, ⊎-elim}
 use Prim.Native.Nat.{ℕ, _-_}
 use native.Mathlib.Omega.{arith}
 use borrow.Author.Needs.{needs}
+use Rattle.mode.specs.Isap.{schemeOf, lawful-scheme}
+use Rattle.isap.specs.Records.{frontOf, backOf}
 use Rattle.isap.specs.Sofar.{Sofar, sofar-start, sofar-fresh, sofar-more}
 use Rattle.isap.specs.Rows.{rounds-on}
 use Rattle.isap.proofs.Slicing.{unrefused, refuses, finishes, timed-now}
@@ -12,7 +14,7 @@ use Rattle.isap.proofs.slices.slice.Statement.{statement}
 use Rattle.isap.proofs.slices.slice.Tie as tie
 
 abbrev Inv-loop : tie.InvT-loop
-Inv-loop assoc text out₀ budget refused sealing front back job left₀ out current left = Sofar job assoc text out₀ budget left current out
+Inv-loop assoc text out₀ budget refused sealing front back job left₀ out current left = Sofar schemeOf job assoc text out₀ budget left current out
 
 abbrev μ-loop : tie.MeasureT-loop
 μ-loop assoc text out₀ budget refused sealing front back job left₀ out current left = left
@@ -43,7 +45,7 @@ loop-holds c =
     let i = c .before .before .before in
     let r = i .before in
     let a = r .before .before .before .before .before .args in
-    sofar-start (a .job) (a .assoc .now) (a .text .now) (a .out .now) (a .budget)
+    sofar-start schemeOf lawful-scheme (a .job) (a .assoc .now) (a .text .now) (a .out .now) (a .budget)
     (unrefused (a .job) (a .assoc .now) (a .text .now) (a .out .now) (sym (r .refusal .ensures) ∙ i .if1 .left))
 
 further-requires : tie.Need-further-requires Inv-loop μ-loop
@@ -53,20 +55,20 @@ further-requires c κs =
     let b = l .before in
     let f = b .before in
     let a = c .before .before .before .before .before .before .before .before .before .before .before .before .before .before .args in (
-      sofar-fresh (a .job) (a .assoc .now) (a .text .now) (a .out .now) (a .budget) (l .loop .left) (l .loop .current) (l .loop .out) (l .loop .inv) (i .if2 .left),
+      sofar-fresh schemeOf lawful-scheme (a .job) (a .assoc .now) (a .text .now) (a .out .now) (a .budget) (l .loop .left) (l .loop .current) (l .loop .out) (l .loop .inv) (i .if2 .left),
       timed-now (a .job) (a .assoc .now) (a .text .now) (a .out .now) (a .budget) (l .loop .left) (l .loop .current) (l .loop .out) _ _ (l .loop .inv)
-          (record { frontIs = f .front-rounds .ensures; backIs = b .back-rounds .ensures }),
+          (unfold frontOf backOf in record { frontIs = f .front-rounds .ensures; backIs = b .back-rounds .ensures (a .job .assoc) }),
       i .before .before .loop-test .taken,
     )
 
 sub-done : tie.Need-sub-left Inv-loop μ-loop
-sub-done c = omega (arith, rounds-on (c .before .before .before .before .further .ensures .turned))
+sub-done c = omega (arith, rounds-on schemeOf (c .before .before .before .before .further .ensures .turned))
 
 sub-left : tie.Need-sub-left-2 Inv-loop μ-loop
-sub-left c = let f = c .before .before .before .before .further .ensures in omega (arith, rounds-on (f .turned), f .fits)
+sub-left c = let f = c .before .before .before .before .further .ensures in omega (arith, rounds-on schemeOf (f .turned), f .fits)
 
 loop-less : tie.Need-loop-less Inv-loop μ-loop
-loop-less c = let f = c .before .before .before .before .further .ensures in omega (arith, rounds-on (f .turned), f .fits, f .some)
+loop-less c = let f = c .before .before .before .before .further .ensures in omega (arith, rounds-on schemeOf (f .turned), f .fits, f .some)
 
 loop-again : tie.Need-loop-again Inv-loop μ-loop
 loop-again c =
@@ -74,9 +76,9 @@ loop-again c =
     let f = g .ensures in
     let l = c .before .before .before .before .before .before .before .before .before in
     let a = c .before .before .before .before .before .before .before .before .before .before .before .before .before .before .before .before .before .before .before .args in
-    let n : g .result .done - l .loop .current .done ≡ f .count = omega (arith, rounds-on (f .turned)) in
-    subst (λ (k : ℕ). Sofar (a .job) (a .assoc .now) (a .text .now) (a .out .now) (a .budget) (l .loop .left - k) (g .result) (g .last .1 .1 .1 .0)) (sym n)
-    (sofar-more (a .job) (a .assoc .now) (a .text .now) (a .out .now) (a .budget) (l .loop .left) (l .loop .current) (l .loop .out) (f .count) (g .result) (g .last .1 .1 .1 .0) (l .loop .inv) (f .fits) (f .turned))
+    let n : g .result .done - l .loop .current .done ≡ f .count = omega (arith, rounds-on schemeOf (f .turned)) in
+    subst (λ (k : ℕ). Sofar schemeOf (a .job) (a .assoc .now) (a .text .now) (a .out .now) (a .budget) (l .loop .left - k) (g .result) (g .last .1 .1 .1 .0)) (sym n)
+    (sofar-more schemeOf lawful-scheme (a .job) (a .assoc .now) (a .text .now) (a .out .now) (a .budget) (l .loop .left) (l .loop .current) (l .loop .out) (f .count) (g .result) (g .last .1 .1 .1 .0) (l .loop .inv) (f .fits) (f .turned))
 
 returns-2 : tie.Need-returns-2 Inv-loop μ-loop
 returns-2 c =

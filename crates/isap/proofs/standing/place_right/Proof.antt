@@ -3,8 +3,8 @@
 use mathlib.Core.Path.{ap, _∙_}
 use borrow.Author.Needs.{needs}
 use Rattle.stopping.specs.Places.{placeOf}
-use Rattle.mode.specs.Instances.{paramsOf}
-use Rattle.mode.specs.Counts.{allShapes}
+use Rattle.scheme.specs.Scheme.{allShapes}
+use Rattle.mode.specs.Isap.{schemeOf}
 use Rattle.plan.specs.Planned.{placed}
 use Rattle.isap.specs.Records.{shapesOf}
 use Rattle.isap.specs.Slices.{samePlace, placeRight}
@@ -18,7 +18,7 @@ returns c =
     let a = d .before .args in
     c .same-place .ensures
     ∙ ap (samePlace (a .job .place))
-    (d .place-after .ensures ∙ ap (λ b. placed (placeOf (allShapes (paramsOf (a .job .instance)) b (a .job .assoc) (a .job .text)) (a .job .done))) (d .before .pre .2))
+    (d .place-after .ensures ∙ ap (λ b. placed (placeOf (allShapes (schemeOf (a .job .instance)) b (a .job .assoc) (a .job .text)) (a .job .done))) (d .before .pre .2))
 
 pub place-right-spec : {M : Type 1} → statement M
 place-right-spec = tie.close (tie.spec (λ c κs. search needs) (λ c κs. search needs) returns)

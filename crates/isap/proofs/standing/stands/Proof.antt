@@ -12,9 +12,11 @@ use Rattle.bits.specs.Pick.{pick}
 use Rattle.bits.specs.Every.{passes, passes-at}
 use Rattle.stopping.specs.Follows.{ends-true}
 use Rattle.mode.specs.Instances.{paramsOf}
-use Rattle.mode.specs.Counts.{verifyRounds, encryptRounds, frontCount, backCount, all-count}
+use Rattle.mode.specs.Counts.{verifyRounds, encryptRounds, frontCount}
+use Rattle.mode.specs.Isap.{schemeOf}
 use Rattle.isap.specs.declared.Job.{Job}
-use Rattle.isap.specs.Records.{sealingOf, totalOf}
+use Rattle.isap.specs.Records.{sealingOf, frontOf, backOf, totalOf}
+use Rattle.isap.specs.Isap.{front-of, total-of}
 use Rattle.isap.specs.Slices.{endingRight, placeRight, limitsRight, standsOf}
 use Rattle.isap.proofs.Tests.{last-test}
 use Rattle.isap.proofs.standing.stands.Statement.{statement}
@@ -28,26 +30,29 @@ lengths-fit i d a m e =
     (leb-true a 256 (t 4), leb-true m 4096 (t 5))
 
 -- the definition, from the four tests
-four : (j : Job) (a b c d : Bool) → limitsRight (j .instance) (j .direction) (j .assoc) (j .text) ≡ a → leb (j .done) (totalOf j) ≡ b → endingRight j ≡ c → placeRight j ≡ d
-    → standsOf j ≡ passes (a ∷ b ∷ c ∷ d ∷ [])
+four : (j : Job) (a b c d : Bool) → limitsRight (j .instance) (j .direction) (j .assoc) (j .text) ≡ a → leb (j .done) (totalOf schemeOf j) ≡ b → endingRight schemeOf j ≡ c → placeRight schemeOf j ≡ d
+    → standsOf schemeOf j ≡ passes (a ∷ b ∷ c ∷ d ∷ [])
 unfolding standsOf
 four j a b c d ea eb ec ed = λ i. passes (ea i ∷ eb i ∷ ec i ∷ ed i ∷ [])
 
-total-of : (j : Job) (e v : ℕ) → e ≡ encryptRounds (paramsOf (j .instance)) (j .text) → v ≡ verifyRounds (paramsOf (j .instance)) (j .assoc) (j .text) → e + v ≡ totalOf j
-unfolding totalOf
-total-of j e v x y = ap₂ (λ (i k : ℕ). i + k) x y
+total-is : (j : Job) (e v : ℕ) → e ≡ encryptRounds (paramsOf (j .instance)) (j .text) → v ≡ verifyRounds (paramsOf (j .instance)) (j .assoc) (j .text) → e + v ≡ totalOf schemeOf j
+total-is j e v x y = ap₂ (λ (i k : ℕ). i + k) x y ∙ sym (total-of j)
 
 -- the ending, by the two counts
 ending-of : (j : Job) (e v : ℕ) → e ≡ encryptRounds (paramsOf (j .instance)) (j .text) → v ≡ verifyRounds (paramsOf (j .instance)) (j .assoc) (j .text)
-    → endingRight j ≡ pick (eqb (j .ending) 2) (pick (sealingOf (j .direction)) false (eqb (j .done) v)) (eqb (j .ending) (pick (eqb (j .done) (e + v)) 1 0))
-unfolding endingRight
+    → endingRight schemeOf j ≡ pick (eqb (j .ending) 2) (pick (sealingOf (j .direction)) false (eqb (j .done) v)) (eqb (j .ending) (pick (eqb (j .done) (e + v)) 1 0))
+unfolding endingRight frontCount
 ending-of j e v x y =
-    let p = paramsOf (j .instance) in
     let b = sealingOf (j .direction) in
     let right =
-    ends-true (frontCount p b (j .assoc) (j .text)) (backCount p b (j .text)) (j .done)
-    ∙ ap (λ (n : ℕ). pick (eqb (j .done) n) 1 0) (all-count p b (j .assoc) (j .text) ∙ sym (ap₂ (λ (i k : ℕ). i + k) x y)) in
-    ap₂ (λ (n k : ℕ). pick (eqb (j .ending) 2) (pick b false (eqb (j .done) n)) (eqb (j .ending) k)) (sym y) right
+    ends-true (frontOf schemeOf j) (backOf schemeOf j) (j .done)
+    ∙ ap (λ (n : ℕ). pick (eqb (j .done) n) 1 0) (sym (total-is j e v x y)) in
+    ap (λ (k : ℕ). pick (eqb (j .ending) 2) (pick b false (eqb (j .done) (frontOf schemeOf j))) (eqb (j .ending) k)) right
+    ∙ ap (λ (q : Bool). pick (eqb (j .ending) 2) q (eqb (j .ending) (pick (eqb (j .done) (e + v)) 1 0))) (go b refl)
+  where
+    go : (b : Bool) → sealingOf (j .direction) ≡ b → pick b false (eqb (j .done) (frontOf schemeOf j)) ≡ pick b false (eqb (j .done) v)
+    go true q = refl
+    go false q = ap (eqb (j .done)) (front-of j ∙ ap (λ (b : Bool). frontCount (paramsOf (j .instance)) b (j .assoc) (j .text)) q ∙ sym y)
 
 returns : tie.Need-returns
 returns c =
@@ -70,9 +75,9 @@ returns-2 c =
     let d = c .before .before in
     let l = d .before .before .before in
     let j = l .before .before .args .job in
-    let total = total-of j (d .encrypt-rounds .result) (d .before .verify-rounds .result) (d .encrypt-rounds .ensures .0) (d .before .verify-rounds .ensures .0) in
+    let total = total-is j (d .encrypt-rounds .result) (d .before .verify-rounds .result) (d .encrypt-rounds .ensures .0) (d .before .verify-rounds .ensures .0) in
     sym
-    (four j true false _ _ (sym (l .before .limits-right .ensures) ∙ not-false _ (l .if1 .left)) (lt-leb (j .done) (totalOf j) (omega (arith, c .if2 .taken, total))) refl refl
+    (four j true false _ _ (sym (l .before .limits-right .ensures) ∙ not-false _ (l .if1 .left)) (lt-leb (j .done) (totalOf schemeOf j) (omega (arith, c .if2 .taken, total))) refl refl
     ∙ unfold passes in refl)
 
 returns-3 : tie.Need-returns-3
@@ -80,10 +85,10 @@ returns-3 c =
     let d = c .before .before .before .before in
     let l = d .before .before .before in
     let j = l .before .before .args .job in
-    let total = total-of j (d .encrypt-rounds .result) (d .before .verify-rounds .result) (d .encrypt-rounds .ensures .0) (d .before .verify-rounds .ensures .0) in
+    let total = total-is j (d .encrypt-rounds .result) (d .before .verify-rounds .result) (d .encrypt-rounds .ensures .0) (d .before .verify-rounds .ensures .0) in
     let ends = ending-of j (d .encrypt-rounds .result) (d .before .verify-rounds .result) (d .encrypt-rounds .ensures .0) (d .before .verify-rounds .ensures .0) in
     sym
-    (four j true true false _ (sym (l .before .limits-right .ensures) ∙ not-false _ (l .if1 .left)) (le-leb (j .done) (totalOf j) (omega (arith, c .before .before .if2 .left, total)))
+    (four j true true false _ (sym (l .before .limits-right .ensures) ∙ not-false _ (l .if1 .left)) (le-leb (j .done) (totalOf schemeOf j) (omega (arith, c .before .before .if2 .left, total)))
     (ends ∙ sym (c .before .ending-right .ensures) ∙ not-true _ (c .if3 .taken)) refl
     ∙ unfold passes in refl)
 
@@ -99,13 +104,13 @@ returns-4 c =
     let d = c .before .before .before .before .before in
     let l = d .before .before .before in
     let j = l .before .before .args .job in
-    let total = total-of j (d .encrypt-rounds .result) (d .before .verify-rounds .result) (d .encrypt-rounds .ensures .0) (d .before .verify-rounds .ensures .0) in
+    let total = total-is j (d .encrypt-rounds .result) (d .before .verify-rounds .result) (d .encrypt-rounds .ensures .0) (d .before .verify-rounds .ensures .0) in
     let ends = ending-of j (d .encrypt-rounds .result) (d .before .verify-rounds .result) (d .encrypt-rounds .ensures .0) (d .before .verify-rounds .ensures .0) in
     c .place-right .ensures
     ∙ sym
-    (four j true true true _ (sym (l .before .limits-right .ensures) ∙ not-false _ (l .if1 .left)) (le-leb (j .done) (totalOf j) (omega (arith, c .before .before .before .if2 .left, total)))
+    (four j true true true _ (sym (l .before .limits-right .ensures) ∙ not-false _ (l .if1 .left)) (le-leb (j .done) (totalOf schemeOf j) (omega (arith, c .before .before .before .if2 .left, total)))
     (ends ∙ sym (c .before .before .ending-right .ensures) ∙ not-false _ (c .before .if3 .left)) refl
-    ∙ unfold passes in sym (last-test (placeRight j)))
+    ∙ unfold passes in sym (last-test (placeRight schemeOf j)))
 
 pub stands-spec : {M : Type 1} → statement M
 stands-spec =

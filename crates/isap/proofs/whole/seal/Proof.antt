@@ -3,6 +3,7 @@
 use mathlib.Core.Path.{sym, _∙_}
 use native.Mathlib.Omega.{arith}
 use borrow.Author.Needs.{needs}
+use Rattle.mode.specs.Isap.{schemeOf}
 use Rattle.isap.specs.Fits.{fits}
 use Rattle.isap.proofs.Wholes.{seal-refused, seal-done}
 use Rattle.isap.proofs.whole.seal.Statement.{statement}
@@ -18,14 +19,14 @@ cast-begin-seal : tie.Need-cast-begin-seal
 cast-begin-seal c =
     let r = c .before in
     let a = r .before .before .before .before .before .before .before .args in
-    let h = fits (a .instance) (a .key .now) (a .nonce .now) (a .assoc .now) (a .text .now) (a .out .now) (a .tag .now) (sym (r .whole-refusal .ensures) ∙ c .if1 .left) in
+    let h = fits schemeOf (a .instance) (a .key .now) (a .nonce .now) (a .assoc .now) (a .text .now) (a .out .now) (a .tag .now) (sym (r .whole-refusal .ensures) ∙ c .if1 .left) in
     omega (arith, h .assocLimit)
 
 cast-begin-seal-2 : tie.Need-cast-begin-seal-2
 cast-begin-seal-2 c =
     let r = c .before in
     let a = r .before .before .before .before .before .before .before .args in
-    let h = fits (a .instance) (a .key .now) (a .nonce .now) (a .assoc .now) (a .text .now) (a .out .now) (a .tag .now) (sym (r .whole-refusal .ensures) ∙ c .if1 .left) in
+    let h = fits schemeOf (a .instance) (a .key .now) (a .nonce .now) (a .assoc .now) (a .text .now) (a .out .now) (a .tag .now) (sym (r .whole-refusal .ensures) ∙ c .if1 .left) in
     omega (arith, h .textLimit)
 
 put-tag-requires : tie.Need-put-tag-requires
@@ -33,7 +34,7 @@ put-tag-requires c κs =
     let i = c .before .before .before .before .before .before .before .before .before in
     let r = i .before in
     let a = r .before .before .before .before .before .before .before .args in
-    fits (a .instance) (a .key .now) (a .nonce .now) (a .assoc .now) (a .text .now) (a .out .now) (a .tag .now) (sym (r .whole-refusal .ensures) ∙ i .if1 .left) .tagLong
+    fits schemeOf (a .instance) (a .key .now) (a .nonce .now) (a .assoc .now) (a .text .now) (a .out .now) (a .tag .now) (sym (r .whole-refusal .ensures) ∙ i .if1 .left) .tagLong
 
 returns-2 : tie.Need-returns-2
 returns-2 c =

@@ -1,0 +1,253 @@
+-- ISAP as a scheme: what mode shows of it, law by law.
+-- Assumes nothing.
+use mathlib.Core.Path.{_≡_, refl, sym, ap, ap₂, _∙_, subst}
+use mathlib.Core.Bool.{Bool, true, false}
+use mathlib.Core.List.{List, [], _∷_, _++_}
+use Prim.Native.Nat.{ℕ, _+_, _*_, _≤_, _<_}
+use native.Mathlib.Decide.{decLt}
+use native.Mathlib.Omega.{arith}
+use lib.ListN.{length, take, drop, length-append, length-take, length-drop}
+use Rattle.bits.specs.Pick.{pick}
+use Rattle.bits.specs.Put.{putAt, length-putAt}
+use Rattle.bits.specs.Xors.{xors, length-xors}
+use Rattle.stopping.specs.Course.{accepted, halted}
+use Rattle.stopping.specs.Kept.{KeepsParts, keeps-parts}
+use Rattle.stopping.specs.Halts.{halted-accepted}
+use Rattle.scheme.specs.Machine.{Machine, Input, Sealed, Opened, Opened.plaintext, Opened.refused}
+use Rattle.scheme.specs.Scheme.{Scheme, allShapes, partsOf}
+use Rattle.scheme.specs.Lawful as schemes
+use Rattle.scheme.specs.Lawful.{Keyed, finished, KeepsCourse, LawfulScheme}
+use Rattle.mode.specs.Strings.{block, same}
+use Rattle.mode.specs.StringLaws.{length-block, same-true}
+use Rattle.mode.specs.Params.{Params, LawfulParams}
+use Rattle.mode.specs.Paper.{isapEnc, isapMac, seal, unseal}
+use Rattle.mode.specs.PaperLaws.{enc-length, enc-twice, length-mac, open-sealed}
+use Rattle.mode.specs.Parts.{part, keyStart, keyBits, keyEnd, written, texts, macStart, assocs, ciphers, setAside, macKeyStart, macKeyBits, macKeyEnd, takeBack, tagged, macEnd, encParts, macParts, sealingCourse, openingCourse, course}
+use Rattle.mode.specs.Counts.{verifyRounds, encryptRounds, encShapes, macShapes, frontShapes, backShapes, frontCount, backCount, shapes-front, shapes-back, front-count, back-count, front-some, back-some, front-pos, front-rounds, back-rounds, lawful, all-count}
+use Rattle.mode.specs.Theorems.{Ready, sealing-accepted, sealing-out, sealing-tag, opening-out, opening-is-paper}
+use Rattle.mode.specs.Kept.{Given, course-kept}
+use Rattle.mode.specs.Beyond.{course-blind}
+use Rattle.mode.specs.Instances.{isapA128a, isapA128, isapK128a, isapK128, paramsOf, by-instance, lawful-instance}
+
+unfoldable pub isapScheme : Params → Scheme
+isapScheme p =
+    record {
+      n = p .n;
+      keyBytes = 16;
+      course = course p;
+      frontShapes = frontShapes p;
+      backShapes = backShapes p;
+      frontCount = frontCount p;
+      backCount = λ b a m. backCount p b m;
+      seal = seal p;
+      unseal = unseal p;
+    }
+
+-- the scheme of an instance: the one place that lists them
+unfoldable pub schemeOf : ℕ → Scheme
+schemeOf i = isapScheme (paramsOf i)
+
+-- ---- the output keeps its length
+
+module _ (p : Params) (x : Input) where
+  abbrev Long : Machine → Type 0
+  Long k = length (k .out) ≡ length (x .text)
+
+  -- a block of output at its place; past the end there is none
+  written-long : (i : ℕ) (s o : List ℕ) → length o ≡ length (x .text)
+      → length (putAt (i * p .b) (xors s (block (p .b) i (x .text))) o) ≡ length (x .text)
+  unfolding putAt
+  written-long i s o k =
+      let y = xors s (block (p .b) i (x .text)) in
+      let size = length-xors s (block (p .b) i (x .text)) in
+      let len = length-block (p .b) i (x .text) in
+      elim (decLt (length (x .text)) (i * p .b)) [
+        | yes f ↦
+            let none : length y ≡ 0 = omega arith in
+            length-append (take (i * p .b) o) (y ++ drop (i * p .b + length y) o)
+            ∙ omega (arith, length-append y (drop (i * p .b + length y) o), length-take (i * p .b) o, length-drop (i * p .b + length y) o, k)
+        | no f ↦ length-putAt (i * p .b) y o (omega (arith, k)) ∙ k
+      ]
+
+  enc-long : KeepsParts Long (encParts p x)
+  unfolding KeepsParts keyStart keyBits keyEnd texts part written
+  enc-long = (
+    record { enter = λ i k e. e; turn = λ i k e. e; leave = λ i k e. e },
+    (
+      record { enter = λ i k e. e; turn = λ i k e. e; leave = λ i k e. e },
+      (
+        record { enter = λ i k e. e; turn = λ i k e. e; leave = λ i k e. e },
+        (record { enter = λ i k e. e; turn = λ i k e. e; leave = λ i k e. written-long i (k .state) (k .out) e }, tt),
+      ),
+    ),
+  )
+
+  mac-long : KeepsParts Long (macParts p x)
+  unfolding KeepsParts macStart assocs ciphers macKeyStart macKeyBits macKeyEnd macEnd part setAside takeBack tagged
+  mac-long = (
+    record { enter = λ i k e. e; turn = λ i k e. e; leave = λ i k e. e },
+    (
+      record { enter = λ i k e. e; turn = λ i k e. e; leave = λ i k e. e },
+      (
+        record { enter = λ i k e. e; turn = λ i k e. e; leave = λ i k e. e },
+        (
+          record { enter = λ i k e. e; turn = λ i k e. e; leave = λ i k e. e },
+          (
+            record { enter = λ i k e. e; turn = λ i k e. e; leave = λ i k e. e },
+            (
+              record { enter = λ i k e. e; turn = λ i k e. e; leave = λ i k e. e },
+              (record { enter = λ i k e. e; turn = λ i k e. e; leave = λ i k e. e }, tt),
+            ),
+          ),
+        ),
+      ),
+    ),
+  )
+
+  course-long : KeepsCourse Long (course p x)
+  unfolding course sealingCourse openingCourse KeepsParts
+  course-long = go (x .sealing)
+    where
+      go : (b : Bool) → KeepsCourse Long (pick b (sealingCourse p x) (openingCourse p x))
+      go true = record { front = keeps-parts Long (encParts p x) (macParts p x) enc-long mac-long; back = tt }
+      go false = record { front = mac-long; back = enc-long }
+
+  -- the MAC writes nothing
+  mac-out : (o : List ℕ) → KeepsParts (λ (k : Machine). k .out ≡ o) (macParts p x)
+  unfolding KeepsParts macStart assocs ciphers macKeyStart macKeyBits macKeyEnd macEnd part setAside takeBack tagged
+  mac-out o = (
+    record { enter = λ i k e. e; turn = λ i k e. e; leave = λ i k e. e },
+    (
+      record { enter = λ i k e. e; turn = λ i k e. e; leave = λ i k e. e },
+      (
+        record { enter = λ i k e. e; turn = λ i k e. e; leave = λ i k e. e },
+        (
+          record { enter = λ i k e. e; turn = λ i k e. e; leave = λ i k e. e },
+          (
+            record { enter = λ i k e. e; turn = λ i k e. e; leave = λ i k e. e },
+            (
+              record { enter = λ i k e. e; turn = λ i k e. e; leave = λ i k e. e },
+              (record { enter = λ i k e. e; turn = λ i k e. e; leave = λ i k e. e }, tt),
+            ),
+          ),
+        ),
+      ),
+    ),
+  )
+
+  opening-untouched : x .sealing ≡ false → (o : List ℕ) → KeepsParts (λ (k : Machine). k .out ≡ o) (course p x .front)
+  unfolding course openingCourse
+  opening-untouched d o =
+      subst (λ (b : Bool). KeepsParts (λ (k : Machine). k .out ≡ o) (pick b (sealingCourse p x) (openingCourse p x) .front)) (sym d) (mac-out o)
+
+  -- a sealing has nothing to decide
+  pub sealing-accepts : x .sealing ≡ true → (m : Machine) → course p x .accepts m ≡ true
+  unfolding course sealingCourse
+  sealing-accepts d m = ap (λ (b : Bool). pick b (sealingCourse p x) (openingCourse p x) .accepts m) d
+
+-- ---- sealing undoes opening
+
+module _ (p : Params) (l : LawfulParams p) (key nonce : List ℕ) (hk : length key ≡ 16) (hn : length nonce ≡ 16) where
+  plain-inj : (a b : List ℕ) → plaintext a ≡ plaintext b → a ≡ b
+  plain-inj a b e = ap (λ (o : Opened). text-of o) e
+    where
+      text-of : Opened → List ℕ
+      text-of (plaintext t) = t
+      text-of refused = []
+
+  pub sealed-back : (a c tag m : List ℕ) → unseal p key nonce a c tag ≡ plaintext m → seal p key nonce a m ≡ record { cipher = c; tag = tag }
+  unfolding seal unseal
+  sealed-back a c tag m e = go (same tag (isapMac p key nonce a c)) refl e
+    where
+      go : (b : Bool) → same tag (isapMac p key nonce a c) ≡ b → pick b (plaintext (isapEnc p key nonce c)) refused ≡ plaintext m
+          → _≡_ {A = Sealed} (record { cipher = isapEnc p key nonce m; tag = isapMac p key nonce a (isapEnc p key nonce m) }) (record { cipher = c; tag = tag })
+      go true q f =
+          let back : isapEnc p key nonce m ≡ c = sym (ap (isapEnc p key nonce) (plain-inj (isapEnc p key nonce c) m f)) ∙ enc-twice p l key nonce hk hn c in
+          ap₂ (λ (u v : List ℕ). record { cipher = u; tag = v }) back
+          (ap (isapMac p key nonce a) back ∙ sym (same-true tag (isapMac p key nonce a c) q))
+      go false q f = absurd (no-text f)
+        where
+          kind : Opened → ℕ
+          kind (plaintext t) = 1
+          kind refused = 0
+
+          no-text : refused ≡ plaintext m → ⊥
+          no-text g = omega (arith, ap kind g)
+
+-- ---- eleven parts
+
+parts-fixed : (p : Params) (b : Bool) (a m : ℕ) → length (allShapes (isapScheme p) b a m) ≡ partsOf (isapScheme p) b
+unfolding isapScheme allShapes partsOf frontShapes backShapes encShapes macShapes
+parts-fixed p true a m = refl
+parts-fixed p false a m = refl
+
+-- ---- the laws
+
+module _ (p : Params) (l : LawfulParams p) where
+  ready-of : (x : Input) (m : Machine) → schemes.Ready (isapScheme p) x m → Ready p x m
+  unfolding isapScheme
+  ready-of x m r = record { state = r .state; session = r .session; out = r .out }
+
+  module _ (x : Input) (h : Keyed (isapScheme p) x) (m : Machine) (r : Ready p x m) where
+    abbrev all : ℕ
+    all = encryptRounds p (length (x .text)) + verifyRounds p (length (x .assoc)) (length (x .text))
+
+    -- the end of the course is where it is halted after all of its rounds
+    at-last : accepted (course p x) m ≡ true → finished (course p x) m ≡ halted (course p x) all m
+    at-last e =
+        sym (halted-accepted (course p x) (lawful p l x) m e all
+        (omega (arith, front-rounds p x, back-rounds p x, all-count p (x .sealing) (length (x .assoc)) (length (x .text)))))
+
+    sealed-is : x .sealing ≡ true → (finished (course p x) m .out ≡ seal p (x .key) (x .nonce) (x .assoc) (x .text) .cipher)
+        × (finished (course p x) m .tag ≡ seal p (x .key) (x .nonce) (x .assoc) (x .text) .tag)
+    unfolding isapScheme
+    sealed-is d =
+        let e = at-last (sealing-accepted p l x (h .key) (h .nonce) m r d) in (
+          ap Machine.out e ∙ sealing-out p l x (h .key) (h .nonce) m r d all (omega arith),
+          ap Machine.tag e ∙ sealing-tag p l x (h .key) (h .nonce) m r d all (omega arith),
+        )
+
+    -- accepted, the algorithm's plaintext is what the end leaves
+    opened-is : x .sealing ≡ false
+        → unseal p (x .key) (x .nonce) (x .assoc) (x .text) (m .tag) ≡ pick (accepted (course p x) m) (plaintext (finished (course p x) m .out)) refused
+    unfolding isapScheme
+    opened-is d = opening-is-paper p l x (h .key) (h .nonce) m r d ∙ go (accepted (course p x) m) refl
+      where
+        go : (b : Bool) → accepted (course p x) m ≡ b
+            → pick b (plaintext (isapEnc p (x .key) (x .nonce) (x .text))) refused ≡ pick b (plaintext (finished (course p x) m .out)) refused
+        go true e = ap plaintext (sym (ap Machine.out (at-last e) ∙ opening-out p l x (h .key) (h .nonce) m r d e all (omega arith)))
+        go false e = refl
+
+  pub lawful-isap : LawfulScheme (isapScheme p)
+  unfolding isapScheme
+  lawful-isap =
+      record {
+        shapesFront = shapes-front p;
+        shapesBack = shapes-back p;
+        countFront = front-count p;
+        countBack = back-count p;
+        someFront = front-some p l;
+        someBack = back-some p l;
+        fixed = parts-fixed p;
+        decides = front-pos p l;
+        accepts = sealing-accepts p;
+        long = course-long p;
+        sound = λ x g ls lss hs hss. course-kept p l x (record { key = g .key; nonce = g .nonce; assoc = g .assoc; text = g .text }) ls lss hs hss;
+        untouched = opening-untouched p;
+        blind = λ x h. course-blind p l x (h .key) (h .nonce);
+        sealed = λ x h d m r. sealed-is x h m (ready-of x m r) d;
+        opened = λ x h d m r g. opened-is x (record { key = h .key .long; nonce = h .nonce .long }) m (ready-of x m r) d;
+        cipherLong = λ key nonce a m hk hn. unfold seal in enc-length p l key nonce hk hn m;
+        tagLong = λ key nonce a m hk hn. unfold seal in length-mac p l key nonce a (isapEnc p key nonce m) hk hn;
+        openSealed = λ key nonce a m hk hn ha hm. open-sealed p l key nonce (hk .long) (hn .long) a m;
+        sealedBack = λ key nonce a c tag m hk hn ha hc ht e. sealed-back p l key nonce (hk .long) (hn .long) a c tag m e;
+      }
+
+pub lawful-scheme : (i : ℕ) → LawfulScheme (schemeOf i)
+unfolding schemeOf
+lawful-scheme i = lawful-isap (paramsOf i) (lawful-instance i)
+
+-- a record's state has room for each
+pub scheme-fits : (i : ℕ) → schemeOf i .n ≤ 50
+unfolding schemeOf isapScheme isapA128a isapA128 isapK128a isapK128
+scheme-fits i = by-instance (λ p. p .n ≤ 50) (omega arith) (omega arith) (omega arith) (omega arith) i

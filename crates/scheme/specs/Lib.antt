@@ -1,0 +1,4 @@
+pub mod Machine
+pub mod Blind
+pub mod Scheme
+pub mod Lawful

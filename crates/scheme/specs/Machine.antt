@@ -1,0 +1,56 @@
+-- What a job works on and what it is given, for any algorithm.
+-- Assumes nothing.
+use mathlib.Core.Path.{_≡_}
+use mathlib.Core.Bool.{Bool}
+use mathlib.Core.List.{List, _++_}
+use Prim.Native.Nat.{ℕ}
+use lib.ListN.{length}
+use Rattle.bits.specs.Bytes.{Bytes}
+
+-- the algorithm's state, the session bytes, the output, and the tag (in a sealing to be made, in an opening received)
+pub record Machine : Type 0 where
+  pub state : List ℕ
+  pub session : List ℕ
+  pub out : List ℕ
+  pub tag : List ℕ
+
+-- an opening is no sealing
+pub record Input : Type 0 where
+  pub sealing : Bool
+  pub key : List ℕ
+  pub nonce : List ℕ
+  pub assoc : List ℕ
+  pub text : List ℕ
+
+-- ---- what an algorithm gives
+
+pub record Sealed : Type 0 where
+  pub cipher : List ℕ
+  pub tag : List ℕ
+
+pub data Opened : Type 0 where
+  plaintext : List ℕ → Opened
+  refused : Opened
+
+-- ---- lengths and bytes
+
+-- a buffer of n bytes
+pub record Buffer (n : ℕ) (s : List ℕ) : Type 0 where
+  pub long : length s ≡ n
+  pub bytes : Bytes s
+
+-- the four buffers of a machine, with a state and session bytes of so many bytes
+pub record Sound (ls lss lo : ℕ) (m : Machine) : Type 0 where
+  pub state : Buffer ls (m .state)
+  pub session : Buffer lss (m .session)
+  pub out : Buffer lo (m .out)
+  pub tag : Buffer 16 (m .tag)
+
+-- a machine with t behind its state and v behind its session bytes
+abbrev pub with-tails : (t v : List ℕ) → Machine → Machine
+with-tails t v m = record { state = m .state ++ t; session = m .session ++ v; out = m .out; tag = m .tag }
+
+-- the state and the session bytes are n bytes each
+pub record Exact (n : ℕ) (m : Machine) : Type 0 where
+  pub state : length (m .state) ≡ n
+  pub session : length (m .session) ≡ n
