@@ -9,5 +9,8 @@ pub mod BigEndian
 pub mod LittleEndian
 pub mod Xors
 pub mod Put
+pub mod Copying
+pub mod Strings
+pub mod StringLaws
 pub mod Part
 pub mod Run

@@ -6,7 +6,7 @@ use mathlib.Core.List.{List, _++_, append-assoc, append-nil}
 use Prim.Native.Nat.{ℕ, _+_, _≤_}
 use native.Mathlib.Omega.{arith}
 use lib.ListN.{length, take, drop, length-append, length-drop, drop-of-length-le}
-use lib.Seq.{length-take-le, take-at, drop-at, take-all, drop-append-add, drop-drop}
+use lib.Seq.{length-take-le, take-at, drop-at, take-all, take-append-le, drop-append-le, drop-append-add, drop-drop}
 use Rattle.bits.specs.Bytes.{Bytes, bytes-take, bytes-drop, bytes-append}
 
 unfoldable pub putAt : ℕ → List ℕ → List ℕ → List ℕ
@@ -34,6 +34,19 @@ bytes-put xs s h k = bytes-append h (bytes-drop (length xs) k)
 pub put-front : (xs s t : List ℕ) → length xs ≡ length s → put xs (s ++ t) ≡ xs ++ t
 unfolding put
 put-front xs s t h = ap (λ (l : List ℕ). xs ++ l) (drop-at s t (length xs) (sym h))
+
+-- what is put into the first bytes of a longer buffer leaves the others
+pub put-within : (xs s t : List ℕ) → length xs ≤ length s → put xs (s ++ t) ≡ put xs s ++ t
+unfolding put
+put-within xs s t h = ap (λ (u : List ℕ). xs ++ u) (drop-append-le (length xs) s t h) ∙ sym (append-assoc xs (drop (length xs) s) t)
+
+pub putAt-within : (i : ℕ) (xs s t : List ℕ) → i + length xs ≤ length s → putAt i xs (s ++ t) ≡ putAt i xs s ++ t
+unfolding putAt
+putAt-within i xs s t h =
+    let rest = drop (i + length xs) s in
+    ap₂ (λ (u v : List ℕ). u ++ (xs ++ v)) (take-append-le i s t (omega arith)) (drop-append-le (i + length xs) s t h)
+    ∙ ap (λ (u : List ℕ). take i s ++ u) (sym (append-assoc xs rest t))
+    ∙ sym (append-assoc (take i s) (xs ++ rest) t)
 
 -- a string put at i, up to its end: where it fits exactly, and where nothing follows it
 pub take-putAt : (i n : ℕ) (xs s : List ℕ) → i + length xs ≤ length s → (n ≡ i + length xs) ⊎ (length s ≡ i + length xs) → i + length xs ≤ n

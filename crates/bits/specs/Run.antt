@@ -2,12 +2,13 @@
 -- bytes of a buffer; what lies beyond is neither read nor changed.
 -- Assumes nothing.
 use mathlib.Core.Path.{_≡_, refl, sym, ap, ap₂, _∙_, subst}
-use mathlib.Core.List.{List, _++_}
+use mathlib.Core.List.{List, _++_, append-nil}
 use Prim.Native.Nat.{ℕ, zero, suc, _+_, _≤_}
 use native.Mathlib.Nat.{add-zero, add-suc, add-assoc, add-sub-of-le, min-eq-left}
 use native.Mathlib.Numerals.{add-one}
-use lib.ListN.{length, take, drop, length-append, length-take, length-drop, take-append-drop}
-use lib.Seq.{take-at, drop-at}
+use native.Mathlib.Omega.{arith}
+use lib.ListN.{length, take, drop, length-append, length-take, length-drop, take-append-drop, drop-of-length-le}
+use lib.Seq.{take-at, drop-at, take-all}
 use Rattle.bits.specs.Bytes.{Bytes, bytes-take, bytes-drop, bytes-append}
 
 module _ {S : Type 0} where
@@ -46,6 +47,15 @@ module _ {S : Type 0} where
 -- f done to the first n bytes, the others as they are
 unfoldable pub front : ℕ → (List ℕ → List ℕ) → List ℕ → List ℕ
 front n f s = f (take n s) ++ drop n s
+
+-- in a longer buffer it does the same to the state alone
+pub front-within : (n : ℕ) (f : List ℕ → List ℕ) (s t : List ℕ) → length s ≡ n → front n f (s ++ t) ≡ front n f s ++ t
+unfolding front
+front-within n f s t h =
+    ap₂ (λ (u v : List ℕ). f u ++ v) (take-at s t n h) (drop-at s t n h)
+    ∙ ap (λ (u : List ℕ). u ++ t)
+    (sym (append-nil (f s))
+    ∙ sym (ap₂ (λ (u v : List ℕ). f u ++ v) (take-all n s (omega arith)) (drop-of-length-le s {i = n} (omega arith))))
 
 -- the same run on a buffer whose first n bytes are the state
 unfoldable pub run : ℕ → (ℕ → List ℕ → List ℕ) → (from count : ℕ) → List ℕ → List ℕ

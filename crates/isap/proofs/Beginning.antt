@@ -11,14 +11,14 @@ use Rattle.isap.specs.Beginnings.{noJob, begunOr}
 
 -- r is the refusal found, and s the definition's
 module _ (r s : ℕ) (j : Job) (e : r ≡ s) where
-  pub refused-or : (r ≡ 0 → ⊥) → (v : Begun) → v ≡ record { number = r; job = noJob } → v ≡ begunOr s j
+  pub refused-or : (r ≡ 0 → ⊥) → (v : Begun) → v ≡ record { number = r; rounds = 0; job = noJob } → v ≡ begunOr s j
   unfolding begunOr
   refused-or f v h =
-      h ∙ ap (λ (n : ℕ). record { number = n; job = noJob }) e
-      ∙ sym (ap (λ (b : Bool). pick b (record { number = 100; job = j }) (record { number = s; job = noJob })) (ne-eqb s 0 (λ z. f (e ∙ z))))
+      h ∙ ap (λ (n : ℕ). record { number = n; rounds = 0; job = noJob }) e
+      ∙ sym (ap (λ (b : Bool). pick b (record { number = 100; rounds = 0; job = j }) (record { number = s; rounds = 0; job = noJob })) (ne-eqb s 0 (λ z. f (e ∙ z))))
 
-  pub begun-or : r ≡ 0 → (k : Job) → k ≡ j → record { number = 100; job = k } ≡ begunOr s j
+  pub begun-or : r ≡ 0 → (k : Job) → k ≡ j → record { number = 100; rounds = 0; job = k } ≡ begunOr s j
   unfolding begunOr
   begun-or z k h =
-      ap (λ (y : Job). record { number = 100; job = y }) h
-      ∙ sym (ap (λ (b : Bool). pick b (record { number = 100; job = j }) (record { number = s; job = noJob })) (eq-eqb s 0 (sym e ∙ z)))
+      ap (λ (y : Job). record { number = 100; rounds = 0; job = y }) h
+      ∙ sym (ap (λ (b : Bool). pick b (record { number = 100; rounds = 0; job = j }) (record { number = s; rounds = 0; job = noJob })) (eq-eqb s 0 (sym e ∙ z)))

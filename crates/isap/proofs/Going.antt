@@ -1,20 +1,22 @@
 -- `row_calls` and `row`, from what each of their calls gives: how many calls go in one go, and that they are as many steps as they have rounds.
 -- Assumes nothing.
-use mathlib.Core.Path.{_≡_, sym, ap, _∙_, subst}
+use mathlib.Core.Path.{_≡_, sym, ap, ap₂, _∙_, subst}
 use mathlib.Core.List.{List}
 use Prim.Native.Nat.{ℕ, _+_, _-_, _*_, _≤_, _<_}
 use native.Mathlib.Omega.{arith}
 use lib.ListN.{length}
+use Rattle.stopping.specs.Parts.{Shape}
 use Rattle.stopping.specs.Places.{shapeAt}
-use Rattle.scheme.specs.Scheme.{allShapes, partsOf}
-use Rattle.mode.specs.Isap.{schemeOf, lawful-scheme}
+use Rattle.scheme.specs.Scheme.{allShapes, allCount, partsOf}
+use Rattle.scheme.specs.Calls.{Inner, Goes}
+use Rattle.instances.specs.Schemes.{schemeOf, lawful-scheme}
+use Rattle.instances.specs.Limits.{mostAssoc, mostText, mostCalls, mostRounds, total-most}
 use Rattle.plan.specs.declared.places.Place.{Place}
 use Rattle.isap.specs.declared.Job.{Job}
-use Rattle.isap.specs.Records.{sealingOf, shapesOf, changed}
+use Rattle.isap.specs.Records.{sealingOf, shapesOf, frontOf, backOf, totalOf, changed}
 use Rattle.isap.specs.Turns.{At, shapeHere}
-use Rattle.isap.specs.Sofar.{Fresh, Turned}
-use Rattle.isap.specs.Rows.{roundsAt, Row, Went, row-upto, row-turned}
-use Rattle.isap.specs.Isap.{total-most, Rowable, Rows}
+use Rattle.isap.specs.Sofar.{Fresh, fresh-at, Turned}
+use Rattle.isap.specs.Rows.{roundsAt, Row, Rowable, Many, Rows, row-upto, row-turned}
 
 module _ (j : Job) where
   pub is-part : At schemeOf j (j .place) → j .place .part < partsOf (schemeOf (j .instance)) (sealingOf (j .direction))
@@ -41,8 +43,8 @@ module _ (j : Job) where
 
   -- ---- the choice
 
-  pub chosen : (left rounds : ℕ) → Rounds rounds → j .place .round ≡ 0 → (j .place .call ≡ 0 → ⊥) → Rowable j → (count : ℕ) → Count count → count ≤ 513
-      → (calls : ℕ) → j .place .call + calls ≤ count - 1 → 0 < count → calls * rounds ≤ left → Rows j left calls
+  pub chosen : (left rounds : ℕ) → Rounds rounds → j .place .round ≡ 0 → (j .place .call ≡ 0 → ⊥) → Rowable j → (count : ℕ) → Count count → count ≤ mostCalls
+      → (calls : ℕ) → j .place .call + calls ≤ count - 1 → 0 < count → calls * rounds ≤ left → Rows schemeOf j left calls
   chosen left rounds r start later can count n most calls up pos fits =
       record {
         isRow = λ some. record {
@@ -54,14 +56,35 @@ module _ (j : Job) where
 
 -- ---- the row
 
-module _ (j : Job) (assoc text out : List ℕ) (h : Fresh schemeOf j assoc text out) (calls : ℕ) (row : Row schemeOf j calls) (rounds : ℕ) (rs : Rounds j rounds) where
-  done-fits : j .done + calls * roundsAt schemeOf j ≤ 15816
-  done-fits = omega (arith, row-upto schemeOf lawful-scheme j assoc text out h calls row, total-most j (h .assocLimit) (h .textLimit))
+-- no record within the limits has more rounds than the longest job
+pub total-of : (j : Job) → j .assoc ≤ mostAssoc → j .text ≤ mostText → totalOf schemeOf j ≤ mostRounds
+unfolding frontOf backOf allCount
+total-of j a m = total-most (j .instance) (sealingOf (j .direction)) (j .assoc) (j .text) a m
 
-  pub sum-fits : j .done + calls * rounds ≤ 15816
+module _ (j : Job) (assoc text out : List ℕ) (h : Fresh schemeOf j assoc text out) (calls : ℕ) (row : Row schemeOf j calls) where
+  -- the row by the lent lengths
+  pub inner : Inner (schemeOf (j .instance)) (sealingOf (j .direction)) (length assoc) (length text) (j .place .part) (j .place .call) calls
+  unfolding shapesOf
+  inner =
+      let at = fresh-at schemeOf lawful-scheme h in
+      record {
+        isPart = subst (λ (hs : List Shape). j .place .part < length hs) lent (at .isPart);
+        notFirst = row .notFirst;
+        notLast = subst (λ (hs : List Shape). j .place .call + calls < shapeAt hs (j .place .part) .count) lent (row .notLast);
+      }
+    where
+      lent : allShapes (schemeOf (j .instance)) (sealingOf (j .direction)) (j .assoc) (j .text) ≡ allShapes (schemeOf (j .instance)) (sealingOf (j .direction)) (length assoc) (length text)
+      lent = ap₂ (allShapes (schemeOf (j .instance)) (sealingOf (j .direction))) (sym (h .assocLong)) (sym (h .textLong))
+
+module _ (j : Job) (assoc text out : List ℕ) (h : Fresh schemeOf j assoc text out) (calls : ℕ) (row : Row schemeOf j calls) (rounds : ℕ) (rs : Rounds j rounds) where
+  done-fits : j .done + calls * roundsAt schemeOf j ≤ mostRounds
+  done-fits = omega (arith, row-upto schemeOf lawful-scheme j assoc text out h calls row, total-of j (h .assocLimit) (h .textLimit))
+
+  pub sum-fits : j .done + calls * rounds ≤ mostRounds
   sum-fits = omega (arith, done-fits, ap (λ (n : ℕ). calls * n) (rounds-is j rounds rs))
 
-  pub gone-on : (state out′ : List ℕ) → Went schemeOf j calls assoc text out state out′ → length out′ ≡ length out → (r : Job)
+  pub gone-on : (state out′ : List ℕ)
+      → Goes (schemeOf (j .instance)) (sealingOf (j .direction)) (j .place .part) (j .place .call) calls (j .nonce) assoc text (j .state) (j .session) out state out′ → length out′ ≡ length out → (r : Job)
       → r ≡ changed j (j .tag) (j .done + calls * rounds) (record { part = j .place .part; call = j .place .call + calls; round = 0 }) (j .ending) state (j .session)
       → Turned schemeOf j assoc text out (calls * roundsAt schemeOf j) r out′
   gone-on state out′ g l r e =

@@ -1,7 +1,6 @@
-mod Calling
 mod Tests
+mod Going
 mod Turning
 mod Slicing
 mod Beginning
 mod Wholes
-mod Going

@@ -12,8 +12,8 @@ use borrow.Author.Tests.{eqb-true, eq-eqb}
 use Rattle.bits.specs.Pick.{pick}
 use Rattle.bits.specs.Every.{passes-at}
 use Rattle.stopping.specs.Course.{Core}
-use Rattle.mode.specs.Parts.{Machine}
-use Rattle.mode.specs.Isap.{schemeOf, lawful-scheme}
+use Rattle.scheme.specs.Machine.{Machine}
+use Rattle.instances.specs.Schemes.{schemeOf, lawful-scheme}
 use Rattle.isap.specs.declared.Job.{Job}
 use Rattle.isap.specs.Records.{frontOf, backOf, after, ran}
 use Rattle.isap.specs.Slices.{standsOf, lentOf, numberOf, refusalOf, answer, sliceOf, outOf}

@@ -1,62 +1,74 @@
 -- `turn`, from what the code of a scheme gives: the rounds of one call are as many steps.
 -- Assumes nothing.
-use mathlib.Core.Path.{_≡_, refl, sym, ap, _∙_, subst}
+use mathlib.Core.Path.{_≡_, refl, sym, ap, ap₂, _∙_, subst}
 use mathlib.Core.List.{List}
 use Prim.Native.Nat.{ℕ, _+_, _≤_, _<_}
 use native.Mathlib.Omega.{arith}
 use lib.Dec.{eqb}
 use lib.ListN.{length}
-use Rattle.stopping.specs.Parts.{roundsIn}
+use Rattle.stopping.specs.Parts.{Shape, roundsIn}
 use Rattle.stopping.specs.Places as places
 use Rattle.stopping.specs.Places.{placeOf, shapeAt}
 use Rattle.stopping.specs.Course.{endingOf}
 use Rattle.scheme.specs.Machine.{Machine}
 use Rattle.scheme.specs.Scheme.{allShapes, partsOf}
-use Rattle.mode.specs.Isap.{schemeOf, lawful-scheme}
+use Rattle.scheme.specs.Calls as calls
+use Rattle.instances.specs.Schemes.{schemeOf, lawful-scheme}
+use Rattle.instances.specs.Limits.{mostRounds}
 use Rattle.plan.specs.declared.places.Place.{Place}
 use Rattle.plan.specs.Planned.{placed, Standing}
 use Rattle.isap.specs.declared.Job.{Job}
 use Rattle.isap.specs.Records.{sealingOf, courseOf, shapesOf, changed}
-use Rattle.isap.specs.Turns.{Here, Ready, Rest, Meets, Turns, Left, Ends, at, total-is, rounds-now, endsWith, gone-by, turn-steps}
+use Rattle.isap.specs.Turns.{At, Here, Ready, Meets, Left, Ends, at, total-is, rounds-now, endsWith, gone-by, turn-steps}
 use Rattle.isap.specs.Sofar.{Timed, Turned, up-to, turned-of}
-use Rattle.isap.specs.Isap.{total-most}
+use Rattle.isap.proofs.Going.{total-of}
 
 module _ (j : Job) (assoc text out : List ℕ) (count : ℕ) (h : Ready schemeOf j assoc text out count) where
+  there : At schemeOf j (j .place)
+  there = at schemeOf lawful-scheme j assoc text out count h
+
+  -- the shapes by the lent lengths
+  lent : allShapes (schemeOf (j .instance)) (sealingOf (j .direction)) (j .assoc) (j .text) ≡ allShapes (schemeOf (j .instance)) (sealingOf (j .direction)) (length assoc) (length text)
+  lent = ap₂ (allShapes (schemeOf (j .instance)) (sealingOf (j .direction))) (sym (h .assocLong)) (sym (h .textLong))
+
   pub stands : Here schemeOf j assoc text out
+  unfolding shapesOf
   stands =
       record {
-        at = at schemeOf lawful-scheme j assoc text out count h;
-        assocLong = h .assocLong;
-        textLong = h .textLong;
-        outLong = h .outLong;
-        assocLimit = h .assocLimit;
-        textLimit = h .textLimit;
+        at =
+            record {
+              isPart = subst (λ (hs : List Shape). j .place .part < length hs) lent (there .isPart);
+              isCall = subst (λ (hs : List Shape). j .place .call < shapeAt hs (j .place .part) .count) lent (there .isCall);
+              isRound = subst (λ (hs : List Shape). j .place .round < shapeAt hs (j .place .part) .rounds) lent (there .isRound);
+            };
+        outLong = h .outLong ∙ sym (h .textLong);
       }
 
-  pub rest : Rest schemeOf j count
-  rest = record { fits = h .fits }
+  pub rest : calls.Rest (schemeOf (j .instance)) (sealingOf (j .direction)) (j .place .part) (j .place .round) count
+  unfolding shapesOf
+  rest = record { a = j .assoc; m = j .text; isPart = there .isPart; fits = h .fits }
 
   pub is-part : j .place .part < partsOf (schemeOf (j .instance)) (sealingOf (j .direction))
   unfolding shapesOf
-  is-part = omega (arith, stands .at .isPart, lawful-scheme (j .instance) .fixed (sealingOf (j .direction)) (j .assoc) (j .text))
+  is-part = omega (arith, there .isPart, lawful-scheme (j .instance) .fixed (sealingOf (j .direction)) (j .assoc) (j .text))
 
   pub can-move : Standing (j .instance) (sealingOf (j .direction)) (j .assoc) (j .text) (j .place) count
   unfolding shapesOf
-  can-move = record { assocLimit = h .assocLimit; textLimit = h .textLimit; isPart = is-part; isCall = stands .at .isCall; isRound = h .fits }
+  can-move = record { assocLimit = h .assocLimit; textLimit = h .textLimit; isPart = is-part; isCall = there .isCall; isRound = h .fits }
 
-  pub done-fits : j .done + count ≤ 15816
-  done-fits = omega (arith, up-to schemeOf lawful-scheme j assoc text out count h, total-most j (h .assocLimit) (h .textLimit))
+  pub done-fits : j .done + count ≤ mostRounds
+  done-fits = omega (arith, up-to schemeOf lawful-scheme j assoc text out count h, total-of j (h .assocLimit) (h .textLimit))
 
-  pub both-fit : (front back : ℕ) → Timed schemeOf j front back → front + back ≤ 15816
-  both-fit front back t = omega (arith, t .frontIs, t .backIs, total-most j (h .assocLimit) (h .textLimit))
+  pub both-fit : (front back : ℕ) → Timed schemeOf j front back → front + back ≤ mostRounds
+  both-fit front back t = omega (arith, t .frontIs, t .backIs, total-of j (h .assocLimit) (h .textLimit))
 
   module _ (rounds : ℕ) (r : (a m : ℕ) → rounds ≡ shapeAt (allShapes (schemeOf (j .instance)) (sealingOf (j .direction)) a m) (j .place .part) .rounds) where
     pub within : j .place .round + count ≤ rounds
     unfolding shapesOf
     within = omega (arith, h .fits, r (j .assoc) (j .text))
 
-    module _ (front back : ℕ) (t : Timed schemeOf j front back) (s ss state out′ tag : List ℕ) (m : Meets schemeOf j assoc text out s ss) (ts : Turns schemeOf j count s ss state)
-        (l : Left schemeOf j (eqb (j .place .round + count) rounds) assoc text out state ss out′ tag)
+    module _ (front back : ℕ) (t : Timed schemeOf j front back) (s ss state out′ tag : List ℕ) (m : Meets schemeOf j assoc text out s ss) (ts : calls.Turns (schemeOf (j .instance)) (sealingOf (j .direction)) (j .key) (j .place .part) (j .place .round) count s ss state)
+        (l : Left schemeOf j (eqb (j .place .round + count) rounds) assoc text out state out′ tag)
         (ending : ℕ) (ed : Ends schemeOf j (j .done + count) front back tag state ss ending)
         (w : Place)
         (pl : (n : ℕ) → n < roundsIn (allShapes (schemeOf (j .instance)) (sealingOf (j .direction)) (j .assoc) (j .text))

@@ -9,14 +9,12 @@ use native.Mathlib.Omega.{arith}
 use lib.ListN.{length, replicate}
 use borrow.Author.Tests.{eq-eqb}
 use Rattle.bits.specs.Every.{passes}
-use Rattle.mode.specs.Instances.{paramsOf, known}
+use Rattle.instances.specs.Schemes.{known, schemeOf, lawful-scheme, scheme-fits}
 use Rattle.bits.specs.Bytes.{Bytes}
 use Rattle.scheme.specs.Machine.{Buffer}
 use Rattle.scheme.specs.Scheme.{allCount}
 use Rattle.scheme.specs.Lawful.{Given}
-use Rattle.mode.specs.Counts.{all-count}
-use Rattle.plan.specs.Kinds.{verify-most, encrypt-most}
-use Rattle.mode.specs.Isap.{isapScheme, schemeOf, lawful-scheme, scheme-fits}
+use Rattle.instances.specs.Limits.{mostAssoc, mostText, total-most}
 use Rattle.isap.specs.declared.Job.{Job}
 use Rattle.isap.specs.declared.Begun as begins
 use Rattle.isap.specs.declared.Sliced.{Sliced}
@@ -32,7 +30,7 @@ use Rattle.isap.specs.Runs.{sealing-answer, sealing-writes, sealing-tags
 -- ---- one slice of a job just begun
 
 module _ (instance direction : ℕ) (key nonce tag assoc text out : List ℕ) (isKnown : known instance ≡ true) (way : (direction ≡ 1) ⊎ (direction ≡ 2))
-    (assocLimit : length assoc ≤ 256) (textLimit : length text ≤ 4096) (long : length out ≡ length text) where
+    (assocLimit : length assoc ≤ mostAssoc) (textLimit : length text ≤ mostText) (long : length out ≡ length text) where
   abbrev j : Job
   j = begunJob schemeOf instance direction key nonce tag (length assoc) (length text)
 
@@ -54,10 +52,13 @@ module _ (instance direction : ℕ) (key nonce tag assoc text out : List ℕ) (i
   unfolding outOf
   written n = rw (outOf, eq-eqb (refusalOf schemeOf j assoc text out) 0 unrefused)
 
-enough : (instance : ℕ) (b : Bool) (assoc text : List ℕ) → length assoc ≤ 256 → length text ≤ 4096 → allCount (schemeOf instance) b (length assoc) (length text) ≤ 15816
-unfolding allCount schemeOf isapScheme
-enough instance b assoc text a m =
-    omega (arith, all-count (paramsOf instance) b (length assoc) (length text), verify-most instance (length assoc) (length text) a m, encrypt-most instance (length text) m)
+-- the budget of a whole call, and that it ends every job
+abbrev largest : ℕ
+largest = 4294967295
+
+enough : (instance : ℕ) (b : Bool) (assoc text : List ℕ) → length assoc ≤ mostAssoc → length text ≤ mostText
+    → allCount (schemeOf instance) b (length assoc) (length text) ≤ largest
+enough instance b assoc text a m = omega (arith, total-most instance b (length assoc) (length text) a m)
 
 -- ---- sealing
 
@@ -68,7 +69,7 @@ module _ (instance : ℕ) (key nonce assoc text out tag : List ℕ) where
       (sealing-refused schemeOf instance key nonce assoc text out tag (λ z. f (e ∙ z)))
 
   pub seal-done : refusalFor schemeOf instance key nonce assoc text out tag ≡ 0 → (b : begins.Begun) → b ≡ beginSealOf schemeOf instance key nonce (length assoc) (length text)
-      → (s : Sliced) → s ≡ sliceOf schemeOf (b .job) assoc text out 15816 → (out′ : List ℕ) → out′ ≡ outOf schemeOf (b .job) assoc text out 15816
+      → (s : Sliced) → s ≡ sliceOf schemeOf (b .job) assoc text out largest → (out′ : List ℕ) → out′ ≡ outOf schemeOf (b .job) assoc text out largest
       → (tag′ : List ℕ) → tag′ ≡ s .job .tag → Seals schemeOf instance key nonce assoc text out tag (record { number = s .number; rounds = s .rounds }) out′ tag′
   unfolding sealOf sealOut sealTag beginSealOf answer begunJob
   seal-done none b eb s es out′ eo tag′ et =
@@ -77,21 +78,21 @@ module _ (instance : ℕ) (key nonce assoc text out tag : List ℕ) where
       let job : b .job ≡ begunJob schemeOf instance 1 key nonce zeros (length assoc) (length text) =
       ap (λ (q : begins.Begun). q .job) eb
       ∙ begun-job (limitsRefusal schemeOf instance (length key) (length nonce) (length assoc) (length text)) (begunJob schemeOf instance 1 key nonce zeros (length assoc) (length text)) (h .limits) in
-      let k = ran schemeOf (begunJob schemeOf instance 1 key nonce zeros (length assoc) (length text)) assoc text out 15816 in
-      let done : s ≡ answer schemeOf (begunJob schemeOf instance 1 key nonce zeros (length assoc) (length text)) assoc text out 15816 =
-      es ∙ ap (λ (y : Job). sliceOf schemeOf y assoc text out 15816) job
-      ∙ sliced instance 1 key nonce zeros assoc text out (h .isKnown) (inl refl) (h .assocLimit) (h .textLimit) (h .outLong) 15816 in
+      let k = ran schemeOf (begunJob schemeOf instance 1 key nonce zeros (length assoc) (length text)) assoc text out largest in
+      let done : s ≡ answer schemeOf (begunJob schemeOf instance 1 key nonce zeros (length assoc) (length text)) assoc text out largest =
+      es ∙ ap (λ (y : Job). sliceOf schemeOf y assoc text out largest) job
+      ∙ sliced instance 1 key nonce zeros assoc text out (h .isKnown) (inl refl) (h .assocLimit) (h .textLimit) (h .outLong) largest in
       let wrote : out′ ≡ k .machine .out =
-      eo ∙ ap (λ (y : Job). outOf schemeOf y assoc text out 15816) job
-      ∙ written instance 1 key nonce zeros assoc text out (h .isKnown) (inl refl) (h .assocLimit) (h .textLimit) (h .outLong) 15816 in
+      eo ∙ ap (λ (y : Job). outOf schemeOf y assoc text out largest) job
+      ∙ written instance 1 key nonce zeros assoc text out (h .isKnown) (inl refl) (h .assocLimit) (h .textLimit) (h .outLong) largest in
       let whole : k .done - 0 ≡ k .done = omega arith in
       let yes = eq-eqb (refusalFor schemeOf instance key nonce assoc text out tag) 0 none in
       let all = enough instance true assoc text (h .assocLimit) (h .textLimit) in (
         ap (λ (q : Sliced). record { number = q .number; rounds = q .rounds }) done
             ∙ ap (λ (n : ℕ). record { number = numberOf (k .ending); rounds = n }) whole
-            ∙ sealing-answer schemeOf lawful-scheme scheme-fits instance 1 key nonce zeros assoc text out (h .keyLong) (h .nonceLong) (h .outLong) 15816 all refl ∙ rw yes,
-        wrote ∙ sealing-writes schemeOf lawful-scheme scheme-fits instance 1 key nonce zeros assoc text out (h .keyLong) (h .nonceLong) (h .outLong) 15816 all refl ∙ rw yes,
-        et ∙ ap (λ (q : Sliced). q .job .tag) done ∙ sealing-tags schemeOf lawful-scheme scheme-fits instance 1 key nonce zeros assoc text out (h .keyLong) (h .nonceLong) (h .outLong) 15816 all refl ∙ rw yes,
+            ∙ sealing-answer schemeOf lawful-scheme scheme-fits instance 1 key nonce zeros assoc text out (h .keyLong) (h .nonceLong) (h .outLong) largest all refl ∙ rw yes,
+        wrote ∙ sealing-writes schemeOf lawful-scheme scheme-fits instance 1 key nonce zeros assoc text out (h .keyLong) (h .nonceLong) (h .outLong) largest all refl ∙ rw yes,
+        et ∙ ap (λ (q : Sliced). q .job .tag) done ∙ sealing-tags schemeOf lawful-scheme scheme-fits instance 1 key nonce zeros assoc text out (h .keyLong) (h .nonceLong) (h .outLong) largest all refl ∙ rw yes,
       )
 
 -- ---- opening
@@ -103,7 +104,7 @@ module _ (instance : ℕ) (key nonce assoc text tag out : List ℕ) where
       (opening-refused schemeOf instance key nonce assoc text tag out (λ z. f (e ∙ z)))
 
   pub open-done : Bytes key → Bytes nonce → Bytes assoc → Bytes text → Bytes tag → refusalFor schemeOf instance key nonce assoc text out tag ≡ 0 → (b : begins.Begun) → b ≡ beginOpenOf schemeOf instance key nonce tag (length assoc) (length text)
-      → (s : Sliced) → s ≡ sliceOf schemeOf (b .job) assoc text out 15816 → (out′ : List ℕ) → out′ ≡ outOf schemeOf (b .job) assoc text out 15816
+      → (s : Sliced) → s ≡ sliceOf schemeOf (b .job) assoc text out largest → (out′ : List ℕ) → out′ ≡ outOf schemeOf (b .job) assoc text out largest
       → Opens schemeOf instance key nonce assoc text tag out (record { number = s .number; rounds = s .rounds }) out′
   unfolding openOf openOut beginOpenOf answer begunJob
   open-done bk bn ba bt bg none b eb s es out′ eo =
@@ -115,18 +116,18 @@ module _ (instance : ℕ) (key nonce assoc text tag out : List ℕ) where
       let no = limitsRefusal schemeOf instance (length key) (length nonce) (length assoc) (length text) in
       ap (λ (q : begins.Begun). q .job) eb
       ∙ begun-job (orElse no (tagRefusal (length tag))) (begunJob schemeOf instance 2 key nonce tag (length assoc) (length text)) (or-zero no (tagRefusal (length tag)) (h .limits) (h .tags)) in
-      let k = ran schemeOf (begunJob schemeOf instance 2 key nonce tag (length assoc) (length text)) assoc text out 15816 in
-      let done : s ≡ answer schemeOf (begunJob schemeOf instance 2 key nonce tag (length assoc) (length text)) assoc text out 15816 =
-      es ∙ ap (λ (y : Job). sliceOf schemeOf y assoc text out 15816) job
-      ∙ sliced instance 2 key nonce tag assoc text out (h .isKnown) (inr refl) (h .assocLimit) (h .textLimit) (h .outLong) 15816 in
+      let k = ran schemeOf (begunJob schemeOf instance 2 key nonce tag (length assoc) (length text)) assoc text out largest in
+      let done : s ≡ answer schemeOf (begunJob schemeOf instance 2 key nonce tag (length assoc) (length text)) assoc text out largest =
+      es ∙ ap (λ (y : Job). sliceOf schemeOf y assoc text out largest) job
+      ∙ sliced instance 2 key nonce tag assoc text out (h .isKnown) (inr refl) (h .assocLimit) (h .textLimit) (h .outLong) largest in
       let wrote : out′ ≡ k .machine .out =
-      eo ∙ ap (λ (y : Job). outOf schemeOf y assoc text out 15816) job
-      ∙ written instance 2 key nonce tag assoc text out (h .isKnown) (inr refl) (h .assocLimit) (h .textLimit) (h .outLong) 15816 in
+      eo ∙ ap (λ (y : Job). outOf schemeOf y assoc text out largest) job
+      ∙ written instance 2 key nonce tag assoc text out (h .isKnown) (inr refl) (h .assocLimit) (h .textLimit) (h .outLong) largest in
       let whole : k .done - 0 ≡ k .done = omega arith in
       let yes = eq-eqb (refusalFor schemeOf instance key nonce assoc text out tag) 0 none in
       let all = enough instance false assoc text (h .assocLimit) (h .textLimit) in (
         ap (λ (q : Sliced). record { number = q .number; rounds = q .rounds }) done
             ∙ ap (λ (n : ℕ). record { number = numberOf (k .ending); rounds = n }) whole
-            ∙ opening-answer schemeOf lawful-scheme scheme-fits instance 2 key nonce tag assoc text out (h .keyLong) (h .nonceLong) (h .outLong) 15816 all refl given tagged ∙ rw yes,
-        wrote ∙ opening-writes schemeOf lawful-scheme scheme-fits instance 2 key nonce tag assoc text out (h .keyLong) (h .nonceLong) (h .outLong) 15816 all refl given tagged ∙ rw yes,
+            ∙ opening-answer schemeOf lawful-scheme scheme-fits instance 2 key nonce tag assoc text out (h .keyLong) (h .nonceLong) (h .outLong) largest all refl given tagged ∙ rw yes,
+        wrote ∙ opening-writes schemeOf lawful-scheme scheme-fits instance 2 key nonce tag assoc text out (h .keyLong) (h .nonceLong) (h .outLong) largest all refl given tagged ∙ rw yes,
       )

@@ -7,7 +7,8 @@ use lib.ListN.{length, replicate}
 use Rattle.bits.specs.Pick.{pick}
 use Rattle.stopping.specs.Places.{placeOf}
 use Rattle.scheme.specs.Scheme.{Scheme, allShapes}
-use Rattle.mode.specs.Instances.{known}
+use Rattle.instances.specs.Schemes.{known}
+use Rattle.instances.specs.Limits.{mostAssoc, mostText}
 use Rattle.plan.specs.Planned.{placed}
 use Rattle.isap.specs.declared.Job.{Job}
 use Rattle.isap.specs.declared.Begun.{Begun}
@@ -44,7 +45,7 @@ noJob =
     }
 
 unfoldable pub begunOr : (refusal : ℕ) → Job → Begun
-begunOr refusal j = pick (eqb refusal 0) (record { number = 100; job = j }) (record { number = refusal; job = noJob })
+begunOr refusal j = pick (eqb refusal 0) (record { number = 100; rounds = 0; job = j }) (record { number = refusal; rounds = 0; job = noJob })
 
 -- ---- by the schemes of the instances
 
@@ -52,7 +53,7 @@ module _ (of : ℕ → Scheme) where
   -- 1 to 5, by the instance and the lengths
   unfoldable pub limitsRefusal : (instance key nonce a m : ℕ) → ℕ
   limitsRefusal instance key nonce a m =
-      pick (known instance) (pick (eqb key (of instance .keyBytes)) (pick (eqb nonce 16) (pick (leb a 256) (pick (leb m 4096) 0 5) 4) 3) 2) 1
+      pick (known instance) (pick (eqb key (of instance .keyBytes)) (pick (eqb nonce 16) (pick (leb a mostAssoc) (pick (leb m mostText) 0 5) 4) 3) 2) 1
 
   unfoldable pub begunJob : (instance direction : ℕ) → (key nonce tag : List ℕ) → (a m : ℕ) → Job
   begunJob instance direction key nonce tag a m =

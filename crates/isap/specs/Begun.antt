@@ -14,7 +14,8 @@ use Rattle.stopping.specs.Course.{endingOf}
 use Rattle.stopping.specs.Follows.{ends-true}
 use Rattle.scheme.specs.Scheme.{Scheme}
 use Rattle.scheme.specs.Lawful.{LawfulScheme}
-use Rattle.mode.specs.Instances.{known}
+use Rattle.instances.specs.Schemes.{known}
+use Rattle.instances.specs.Limits.{mostAssoc, mostText}
 use Rattle.plan.specs.declared.places.Place.{Place}
 use Rattle.isap.specs.declared.Job.{Job}
 use Rattle.isap.specs.declared.Begun as begins
@@ -60,11 +61,11 @@ directed : (d : ℕ) → (d ≡ 1) ⊎ (d ≡ 2) → (1 ≤ d) × (d ≤ 2)
 directed d (inl e) = (omega arith, omega arith)
 directed d (inr e) = (omega arith, omega arith)
 
-limits-within : (i d a m : ℕ) → known i ≡ true → (d ≡ 1) ⊎ (d ≡ 2) → a ≤ 256 → m ≤ 4096 → limitsRight i d a m ≡ true
-unfolding limitsRight known passes
+pub limits-within : (i d a m : ℕ) → known i ≡ true → (d ≡ 1) ⊎ (d ≡ 2) → a ≤ mostAssoc → m ≤ mostText → limitsRight i d a m ≡ true
+unfolding limitsRight passes
 limits-within i d a m k w ha hm =
     let t = directed d w in
-    rw (and-left (leb 1 i) (leb i 4) k, and-right (leb 1 i) (leb i 4) k, le-leb 1 d (t .0), le-leb d 2 (t .1), le-leb a 256 ha, le-leb m 4096 hm)
+    rw (k, le-leb 1 d (t .0), le-leb d 2 (t .1), le-leb a mostAssoc ha, le-leb m mostText hm)
 
 -- no job ends before its first round: there are rounds up to its decision
 ending-start : (v e : ℕ) → 0 < v → endingOf v e 0 true ≡ 0
@@ -73,19 +74,19 @@ ending-start v e h = ends-true v e 0 ∙ ap (λ (b : Bool). pick b 1 0) (ne-eqb 
 -- the record of a beginning that is not refused
 pub begun-job : (r : ℕ) (j : Job) → r ≡ 0 → begunOr r j .job ≡ j
 unfolding begunOr
-begun-job r j e = ap (λ (b : Bool). pick {A = begins.Begun} b (record { number = 100; job = j }) (record { number = r; job = noJob }) .job) (eq-eqb r 0 e)
+begun-job r j e = ap (λ (b : Bool). pick {A = begins.Begun} b (record { number = 100; rounds = 0; job = j }) (record { number = r; rounds = 0; job = noJob }) .job) (eq-eqb r 0 e)
 
 module _ (of : ℕ → Scheme) where
   pub limits-none : (instance key nonce a m : ℕ) → limitsRefusal of instance key nonce a m ≡ 0
-      → (known instance ≡ true) × (key ≡ of instance .keyBytes) × (nonce ≡ 16) × (a ≤ 256) × (m ≤ 4096)
+      → (known instance ≡ true) × (key ≡ of instance .keyBytes) × (nonce ≡ 16) × (a ≤ mostAssoc) × (m ≤ mostText)
   unfolding limitsRefusal
   limits-none instance key nonce a m q =
-      let t = limits-by (known instance) (eqb key (of instance .keyBytes)) (eqb nonce 16) (leb a 256) (leb m 4096) q in
-      (t .0, eqb-true key (of instance .keyBytes) (t .1), eqb-true nonce 16 (t .2), leb-true a 256 (t .3), leb-true m 4096 (t .4))
+      let t = limits-by (known instance) (eqb key (of instance .keyBytes)) (eqb nonce 16) (leb a mostAssoc) (leb m mostText) q in
+      (t .0, eqb-true key (of instance .keyBytes) (t .1), eqb-true nonce 16 (t .2), leb-true a mostAssoc (t .3), leb-true m mostText (t .4))
 
   pub limits-small : (instance key nonce a m : ℕ) → limitsRefusal of instance key nonce a m ≤ 5
   unfolding limitsRefusal
-  limits-small instance key nonce a m = go (known instance) (eqb key (of instance .keyBytes)) (eqb nonce 16) (leb a 256) (leb m 4096)
+  limits-small instance key nonce a m = go (known instance) (eqb key (of instance .keyBytes)) (eqb nonce 16) (leb a mostAssoc) (leb m mostText)
     where
       go : (i k n a m : Bool) → pick i (pick k (pick n (pick a (pick m 0 5) 4) 3) 2) 1 ≤ 5
       go true true true true true = omega arith
@@ -96,7 +97,7 @@ module _ (of : ℕ → Scheme) where
       go false k n a m = omega arith
 
   pub none-stands : standsOf of noJob ≡ false
-  unfolding standsOf noJob limitsRight passes
+  unfolding standsOf noJob limitsRight passes known
   none-stands = refl
 
 module _ (of : ℕ → Scheme) (laws : (i : ℕ) → LawfulScheme (of i)) where
@@ -120,7 +121,7 @@ module _ (of : ℕ → Scheme) (laws : (i : ℕ) → LawfulScheme (of i)) where
     unfolding begunJob
     done-begun = le-leb 0 (totalOf of begun) (omega arith)
 
-    pub begun-stands : known instance ≡ true → (direction ≡ 1) ⊎ (direction ≡ 2) → a ≤ 256 → m ≤ 4096
+    pub begun-stands : known instance ≡ true → (direction ≡ 1) ⊎ (direction ≡ 2) → a ≤ mostAssoc → m ≤ mostText
         → standsOf of (begunJob of instance direction key nonce tag a m) ≡ true
     unfolding standsOf passes
     begun-stands k d ha hm =

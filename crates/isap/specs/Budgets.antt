@@ -21,13 +21,15 @@ use Rattle.stopping.specs.Halts.{lasts-accepted, lasts-refused}
 use Rattle.scheme.specs.Machine.{Machine, Input}
 use Rattle.scheme.specs.Scheme.{Scheme}
 use Rattle.scheme.specs.Lawful.{LawfulScheme, lawful, front-rounds, back-rounds, sealing-accepted, out-long as scheme-out-long}
-use Rattle.mode.specs.Instances.{known}
+use Rattle.instances.specs.Schemes.{known}
+use Rattle.instances.specs.Limits.{mostAssoc, mostText}
 use Rattle.plan.specs.declared.places.Place.{Place}
 use Rattle.plan.specs.Planned.{placed}
 use Rattle.isap.specs.declared.Job.{Job}
 use Rattle.isap.specs.Records.{sealingOf, inputOf, machineOf, courseOf, shapesOf, frontOf, backOf, totalOf, after, ran}
 use Rattle.isap.specs.Slices.{endingRight, placeRight, limitsRight, standsOf, lentOf, numberOf, refusalOf, answer, sliceOf, outOf}
 use Rattle.isap.specs.Beginnings.{begunJob}
+use Rattle.isap.specs.Begun.{limits-within}
 
 -- a job between two slices: its record, the output, and the rounds that its slices did
 pub record Progress : Type 0 where
@@ -59,8 +61,8 @@ module _ (of : ℕ → Scheme) where
   pub record Begun (j : Job) (assoc text out : List ℕ) : Type 0 where
     pub isKnown : known (j .instance) ≡ true
     pub isDirection : (j .direction ≡ 1) ⊎ (j .direction ≡ 2)
-    pub assocLimit : j .assoc ≤ 256
-    pub textLimit : j .text ≤ 4096
+    pub assocLimit : j .assoc ≤ mostAssoc
+    pub textLimit : j .text ≤ mostText
     pub isBegun : j ≡ begunJob of (j .instance) (j .direction) (j .key) (j .nonce) (j .tag) (j .assoc) (j .text)
     pub assocLong : length assoc ≡ j .assoc
     pub textLong : length text ≡ j .text
@@ -144,18 +146,7 @@ module _ (of : ℕ → Scheme) (laws : (i : ℕ) → LawfulScheme (of i)) where
     out-long n = scheme-out-long (of (j .instance)) (laws (j .instance)) (inputOf j assoc text) n m (h .outLong ∙ sym (h .textLong)) ∙ h .textLong
 
     limits : limitsRight (j .instance) (j .direction) (j .assoc) (j .text) ≡ true
-    unfolding limitsRight passes known
-    limits =
-        let low = and-left (leb 1 (j .instance)) (leb (j .instance) 4) (h .isKnown) in
-        let high = and-right (leb 1 (j .instance)) (leb (j .instance) 4) (h .isKnown) in
-        let d = go (h .isDirection) in
-        let a = le-leb (j .assoc) 256 (h .assocLimit) in
-        let t = le-leb (j .text) 4096 (h .textLimit) in
-        λ i. passes (low i ∷ high i ∷ d .0 i ∷ d .1 i ∷ a i ∷ t i ∷ [])
-      where
-        go : (j .direction ≡ 1) ⊎ (j .direction ≡ 2) → (leb 1 (j .direction) ≡ true) × (leb (j .direction) 2 ≡ true)
-        go (inl e) = (le-leb 1 (j .direction) (omega arith), le-leb (j .direction) 2 (omega arith))
-        go (inr e) = (le-leb 1 (j .direction) (omega arith), le-leb (j .direction) 2 (omega arith))
+    limits = limits-within (j .instance) (j .direction) (j .assoc) (j .text) (h .isKnown) (h .isDirection) (h .assocLimit) (h .textLimit)
 
     -- at its end it has ended well, or by a refusal, and that only an opening
     over-well : (n : ℕ) → lasts c m ≤ n → accepted c m ≡ true → Allowed seals before beyond (endedBy c n m) (min n (lasts c m))

@@ -10,7 +10,8 @@ use lib.ListN.{length}
 use borrow.Author.Tests.{eqb-true, eq-eqb}
 use Rattle.bits.specs.Pick.{pick}
 use Rattle.scheme.specs.Scheme.{Scheme}
-use Rattle.mode.specs.Instances.{known}
+use Rattle.instances.specs.Schemes.{known}
+use Rattle.instances.specs.Limits.{mostAssoc, mostText}
 use Rattle.isap.specs.Beginnings.{limitsRefusal, tagRefusal, orElse}
 use Rattle.isap.specs.Begun.{limits-none, or-none, tag-none}
 use Rattle.isap.specs.Whole.{outRefusal, wholeRefusal, refusalFor}
@@ -33,8 +34,8 @@ module _ (of : ℕ → Scheme) where
     pub isKnown : known instance ≡ true
     pub keyLong : length key ≡ of instance .keyBytes
     pub nonceLong : length nonce ≡ 16
-    pub assocLimit : length assoc ≤ 256
-    pub textLimit : length text ≤ 4096
+    pub assocLimit : length assoc ≤ mostAssoc
+    pub textLimit : length text ≤ mostText
     pub outLong : length out ≡ length text
     pub tagLong : length tag ≡ 16
     pub limits : limitsRefusal of instance (length key) (length nonce) (length assoc) (length text) ≡ 0

@@ -8,6 +8,5 @@ pub mod Runs
 pub mod Turns
 pub mod Sofar
 pub mod Rows
-pub mod Isap
 pub mod Budgets
 pub mod Promises

@@ -54,7 +54,7 @@ begun-number : (r : ℕ) (j : Job) → r ≤ 7 → begunOr r j .number ≡ 100 �
 unfolding begunOr
 begun-number r j small e = go (eqb r 0) refl e
   where
-    go : (b : Bool) → eqb r 0 ≡ b → pick {A = begins.Begun} b (record { number = 100; job = j }) (record { number = r; job = noJob }) .number ≡ 100 → r ≡ 0
+    go : (b : Bool) → eqb r 0 ≡ b → pick {A = begins.Begun} b (record { number = 100; rounds = 0; job = j }) (record { number = r; rounds = 0; job = noJob }) .number ≡ 100 → r ≡ 0
     go true q n = eqb-true r 0 q
     go false q n = absurd (omega (arith, small, n))
 

@@ -1,6 +1,7 @@
 -- Some whole calls of the part at which a record stands, done in one go: they are as many steps as they have rounds.
 -- Assumes nothing.
 use mathlib.Core.Path.{_≡_, sym, ap, ap₂, _∙_}
+use mathlib.Core.Bool.{true}
 use mathlib.Core.List.{List}
 use Prim.Native.Nat.{ℕ, _+_, _*_, _≤_, _<_}
 use native.Mathlib.Nat.{zero-mul}
@@ -13,12 +14,19 @@ use Rattle.stopping.specs.Course.{Core, parts, standsAt, steps}
 use Rattle.stopping.specs.Wholes.{wholes, row-place, row-within, row-steps}
 use Rattle.scheme.specs.Machine.{Machine}
 use Rattle.scheme.specs.Scheme.{Scheme}
+use Rattle.scheme.specs.Calls.{Goes}
 use Rattle.scheme.specs.Lawful.{LawfulScheme}
+use Rattle.instances.specs.Limits.{mostCalls}
 use Rattle.plan.specs.Planned.{placed}
+use Rattle.calls.specs.Rowable.{rowable}
 use Rattle.isap.specs.declared.Job.{Job}
-use Rattle.isap.specs.Records.{machineOf, coreOf, courseOf, shapesOf, totalOf, changed, after, ran}
+use Rattle.isap.specs.Records.{sealingOf, coreOf, courseOf, shapesOf, totalOf, changed, after, ran}
 use Rattle.isap.specs.Turns.{shapeHere, Ready, lawful-c, stands-at, shape-now, all-rounds, more}
 use Rattle.isap.specs.Sofar.{Fresh, fresh-at, fresh-ready, Turned}
+
+-- its part is one whose calls go in one go
+abbrev pub Rowable : Job → Type 0
+Rowable j = rowable (j .instance) (sealingOf (j .direction)) (j .place .part) ≡ true
 
 module _ (of : ℕ → Scheme) where
   -- the rounds of a call of the part at which a record stands
@@ -30,7 +38,7 @@ module _ (of : ℕ → Scheme) where
     pub atStart : j .place .round ≡ 0
     pub notFirst : 0 < j .place .call
     pub notLast : j .place .call + calls < shapeHere of j (j .place) .count
-    pub small : j .place .call + calls ≤ 513
+    pub small : j .place .call + calls ≤ mostCalls
 
   -- a record further on, by some rounds of a budget
   pub record Further (j : Job) (assoc text out : List ℕ) (left : ℕ) (r : Job) (out′ : List ℕ) : Type 0 where
@@ -43,11 +51,18 @@ module _ (of : ℕ → Scheme) where
   pub rounds-on : {j : Job} {assoc text out : List ℕ} {count : ℕ} {r : Job} {out′ : List ℕ} → Turned of j assoc text out count r out′ → r .done ≡ j .done + count
   rounds-on t = ap Job.done (t .jobIs) ∙ t .doneIs
 
-  -- what the calls leave, as a code that does them says it
-  unfoldable pub Went : Job → (calls : ℕ) → (assoc text out state′ out′ : List ℕ) → Type 0
-  Went j calls assoc text out state out′ =
-      wholes (partAt (parts (courseOf of j assoc text)) (j .place .part)) (j .place .call) calls (machineOf j out)
-      ≡ record { state = state; session = j .session; out = out′; tag = j .tag }
+  -- ---- what the code chooses: none, or a row that the budget allows
+
+  pub record Many (j : Job) (calls : ℕ) : Type 0 where
+    pub row : Row j calls
+    pub isMany : Rowable j
+
+  pub record Rows (j : Job) (left calls : ℕ) : Type 0 where
+    pub isRow : 0 < calls → Many j calls
+    pub fits : calls * roundsAt j ≤ left
+
+  pub no-row : (j : Job) (left : ℕ) → Rows j left 0
+  no-row j left = record { isRow = λ z. absurd (omega arith); fits = omega (arith, zero-mul (roundsAt j)) }
 
 module _ (of : ℕ → Scheme) (laws : (i : ℕ) → LawfulScheme (of i)) (j : Job) (assoc text out : List ℕ) (h : Fresh of j assoc text out) (calls : ℕ) (row : Row of j calls) where
   ready : Ready of j assoc text out 1
@@ -89,16 +104,17 @@ module _ (of : ℕ → Scheme) (laws : (i : ℕ) → LawfulScheme (of i)) (j : J
       sym (stands-at of laws j assoc text out 1 ready (j .done + count)) ∙ ap (λ (n : ℕ). standsAt (courseOf of j assoc text) (j .done + n)) (sym rounds-is)
       ∙ row-place (courseOf of j assoc text) (lawful-c of laws j assoc text out 1 ready) (coreOf j out) (h .unended) (more of laws j assoc text out 1 ready) (j .place .part) (j .place .call) stands calls room
 
-  module _ (state out′ : List ℕ) (g : Went of j calls assoc text out state out′) where
+  module _ (state out′ : List ℕ)
+      (g : Goes (of (j .instance)) (sealingOf (j .direction)) (j .place .part) (j .place .call) calls (j .nonce) assoc text (j .state) (j .session) out state out′) where
     core : Core Machine
     core = record { machine = record { state = state; session = j .session; out = out′; tag = j .tag }; done = j .done + count; ending = 0 }
 
     ran-is : ran of j assoc text out count ≡ core
-    unfolding ran core Went
+    unfolding ran core Goes courseOf
     ran-is =
         ap (λ (n : ℕ). steps (courseOf of j assoc text) n (coreOf j out)) (sym rounds-is)
         ∙ row-steps (courseOf of j assoc text) (lawful-c of laws j assoc text out 1 ready) (coreOf j out) (h .unended) (more of laws j assoc text out 1 ready) (j .place .part) (j .place .call) stands calls room
-        ∙ ap₂ (λ (m : Machine) (n : ℕ). record { machine = m; done = j .done + n; ending = 0 }) g rounds-is
+        ∙ ap₂ (λ (m : Machine) (n : ℕ). record { machine = m; done = j .done + n; ending = 0 }) (g (j .key) (j .tag)) rounds-is
 
     -- the record with the state, the rounds and the place that the calls lead to
     pub row-turned : length out′ ≡ length out → Turned of j assoc text out count

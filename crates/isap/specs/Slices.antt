@@ -10,6 +10,8 @@ use Rattle.bits.specs.Every.{passes}
 use Rattle.stopping.specs.Places.{placeOf}
 use Rattle.stopping.specs.Course.{endingOf}
 use Rattle.scheme.specs.Scheme.{Scheme}
+use Rattle.instances.specs.Schemes.{known}
+use Rattle.instances.specs.Limits.{mostAssoc, mostText}
 use Rattle.plan.specs.declared.places.Place.{Place}
 use Rattle.plan.specs.Planned.{placed}
 use Rattle.isap.specs.declared.Job.{Job}
@@ -23,7 +25,7 @@ samePlace v w = passes (eqb (v .part) (w .part) ∷ eqb (v .call) (w .call) ∷ 
 
 -- instance, direction and lengths within their limits
 unfoldable pub limitsRight : (instance direction a m : ℕ) → Bool
-limitsRight instance direction a m = passes (leb 1 instance ∷ leb instance 4 ∷ leb 1 direction ∷ leb direction 2 ∷ leb a 256 ∷ leb m 4096 ∷ [])
+limitsRight instance direction a m = passes (known instance ∷ leb 1 direction ∷ leb direction 2 ∷ leb a mostAssoc ∷ leb m mostText ∷ [])
 
 -- the lent lengths are the record's
 unfoldable pub lentOf : Job → (assoc text out : List ℕ) → Bool

@@ -16,6 +16,7 @@ use Rattle.stopping.specs.Follows.{steps-add, steps-ended, total-ends}
 use Rattle.scheme.specs.Machine.{Machine}
 use Rattle.scheme.specs.Scheme.{Scheme}
 use Rattle.scheme.specs.Lawful.{LawfulScheme}
+use Rattle.instances.specs.Limits.{mostAssoc, mostText}
 use Rattle.plan.specs.declared.places.Place.{Place}
 use Rattle.plan.specs.Planned.{placed}
 use Rattle.isap.specs.declared.Job.{Job}
@@ -32,8 +33,8 @@ module _ (of : ℕ → Scheme) where
     pub assocLong : length assoc ≡ j .assoc
     pub textLong : length text ≡ j .text
     pub outLong : length out ≡ j .text
-    pub assocLimit : j .assoc ≤ 256
-    pub textLimit : j .text ≤ 4096
+    pub assocLimit : j .assoc ≤ mostAssoc
+    pub textLimit : j .text ≤ mostText
 
   pub record Sofar (j : Job) (assoc text out₀ : List ℕ) (budget left : ℕ) (r : Job) (out : List ℕ) : Type 0 where
     pub fresh : Fresh j assoc text out₀
@@ -239,6 +240,6 @@ module _ (of : ℕ → Scheme) (laws : (i : ℕ) → LawfulScheme (of i)) where
         assocLong = ha;
         textLong = ht;
         outLong = ho;
-        assocLimit = leb-true (j .assoc) 256 (lim 4);
-        textLimit = leb-true (j .text) 4096 (lim 5);
+        assocLimit = leb-true (j .assoc) mostAssoc (lim 3);
+        textLimit = leb-true (j .text) mostText (lim 4);
       }

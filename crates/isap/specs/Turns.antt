@@ -15,9 +15,11 @@ use Rattle.stopping.specs.Parts.{Shape, EachSome, roundsIn, callOf}
 use Rattle.stopping.specs.Places.{Place, place, placeOf, partAt, callAt, shapeAt, shape-part, Inside, place-inside}
 use Rattle.stopping.specs.Course.{Course, parts, frontRounds, backRounds, endingOf, coreAt, standsAt, steps, Lawful}
 use Rattle.stopping.specs.Chunks.{some, chunk}
-use Rattle.scheme.specs.Machine.{Machine, Input}
+use Rattle.scheme.specs.Machine.{Machine, machine}
 use Rattle.scheme.specs.Scheme.{Scheme, allShapes, allCount}
+use Rattle.scheme.specs.Calls as calls
 use Rattle.scheme.specs.Lawful.{LawfulScheme, all-some, count-all, shapes-all, front-rounds, back-rounds, lawful}
+use Rattle.instances.specs.Limits.{mostAssoc, mostText}
 use Rattle.plan.specs.declared.places.Place as planned
 use Rattle.plan.specs.Planned.{placed}
 use Rattle.isap.specs.declared.Job.{Job}
@@ -47,8 +49,8 @@ module _ (of : ℕ → Scheme) where
     pub assocLong : length assoc ≡ j .assoc
     pub textLong : length text ≡ j .text
     pub outLong : length out ≡ j .text
-    pub assocLimit : j .assoc ≤ 256
-    pub textLimit : j .text ≤ 4096
+    pub assocLimit : j .assoc ≤ mostAssoc
+    pub textLimit : j .text ≤ mostText
     pub someRounds : 0 < count
     pub fits : j .place .round + count ≤ shapeHere j (j .place) .rounds
 
@@ -66,52 +68,27 @@ module _ (of : ℕ → Scheme) where
   unfoldable pub callNow : Job → (assoc text : List ℕ) → Call Machine
   callNow j assoc text = callOf (partAt (parts (courseOf of j assoc text)) (j .place .part)) (j .place .call)
 
-  -- ---- what the code of a scheme gives, of the call at which a record stands
+  -- ---- what the code gives, of the call at which a record stands
 
   -- a call that is there, with what belongs to the record lent
   pub record Here (j : Job) (assoc text out : List ℕ) : Type 0 where
-    pub at : At j (j .place)
-    pub assocLong : length assoc ≡ j .assoc
-    pub textLong : length text ≡ j .text
-    pub outLong : length out ≡ j .text
-    pub assocLimit : j .assoc ≤ 256
-    pub textLimit : j .text ≤ 4096
+    pub at : calls.At (of (j .instance)) (sealingOf (j .direction)) (length assoc) (length text) (j .place .part) (j .place .call) (j .place .round)
+    pub outLong : length out ≡ length text
 
-  -- the state and the session bytes that its first round meets; output and tag are as they were
-  unfoldable pub Enters : Job → (assoc text out state′ session′ : List ℕ) → Type 0
-  Enters j assoc text out s ss =
-      (tag : List ℕ) → callNow j assoc text .enter (record { state = j .state; session = j .session; out = out; tag = tag }) ≡ record { state = s; session = ss; out = out; tag = tag }
-
-  -- the same of the next round, whichever it is
+  -- the state and the session bytes that the next round meets; output and tag are as they were
   unfoldable pub Meets : Job → (assoc text out state′ session′ : List ℕ) → Type 0
-  Meets j assoc text out s ss =
-      (tag : List ℕ) → entered (callNow j assoc text) (j .place .round) (record { state = j .state; session = j .session; out = out; tag = tag }) ≡ record { state = s; session = ss; out = out; tag = tag }
+  Meets j assoc text out s ss = entered (callNow j assoc text) (j .place .round) (machineOf j out) ≡ machine s ss out (j .tag)
 
-  -- so many of its rounds, from there: they change the state alone, and may read key, nonce and session bytes
-  unfoldable pub Turns : Job → (count : ℕ) → (state session state′ : List ℕ) → Type 0
-  Turns j count s ss s′ =
-      (assoc text out tag : List ℕ) → turns (λ (i : ℕ). callNow j assoc text .turn (j .place .round + i)) count (record { state = s; session = ss; out = out; tag = tag })
-      ≡ record { state = s′; session = ss; out = out; tag = tag }
-
-  -- what goes with its last round: output and tag
-  unfoldable pub Leaves : Job → (assoc text out state session out′ tag′ : List ℕ) → Type 0
-  Leaves j assoc text out s ss out′ tag′ =
-      callNow j assoc text .leave (record { state = s; session = ss; out = out; tag = j .tag }) ≡ record { state = s; session = ss; out = out′; tag = tag′ }
-
-  -- the same, if the last round is done
-  unfoldable pub Left : Job → (last : Bool) → (assoc text out state session out′ tag′ : List ℕ) → Type 0
-  Left j last assoc text out s ss out′ tag′ =
-      pick last (callNow j assoc text .leave (record { state = s; session = ss; out = out; tag = j .tag })) (record { state = s; session = ss; out = out; tag = j .tag })
-      ≡ record { state = s; session = ss; out = out′; tag = tag′ }
-
-  -- what the decision would say
-  unfoldable pub Decides : Job → (tag state session : List ℕ) → Bool → Type 0
-  Decides j tag s ss r = (assoc text out : List ℕ) → r ≡ courseOf of j assoc text .accepts (record { state = s; session = ss; out = out; tag = tag })
+  -- what goes with the last round, if it is done: output and tag
+  unfoldable pub Left : Job → (last : Bool) → (assoc text out state out′ tag′ : List ℕ) → Type 0
+  Left j last assoc text out s out′ tag′ =
+      (session : List ℕ)
+      → pick last (callNow j assoc text .leave (machine s session out (j .tag))) (machine s session out (j .tag)) ≡ machine s session out′ tag′
 
   -- the ending that its d-th round gives, by the counts that the code has
   unfoldable pub Ends : Job → (d front back : ℕ) → (tag state session : List ℕ) → ℕ → Type 0
   Ends j d front back tag s ss r =
-      (assoc text out : List ℕ) → r ≡ endingOf front back d (courseOf of j assoc text .accepts (record { state = s; session = ss; out = out; tag = tag }))
+      (assoc text out : List ℕ) → r ≡ endingOf front back d (courseOf of j assoc text .accepts (machine s ss out tag))
 
   -- the ending that its d-th round gives
   unfoldable pub endsWith : Job → (assoc text : List ℕ) → (d : ℕ) → Machine → ℕ
@@ -131,23 +108,34 @@ entered-first f i m e = ap (λ (r : ℕ). entered f r m) e
 module _ (of : ℕ → Scheme) (j : Job) (assoc text out : List ℕ) where
   pub meets-later : (j .place .round ≡ 0 → ⊥) → Meets of j assoc text out (j .state) (j .session)
   unfolding Meets
-  meets-later h tag = entered-later (callNow of j assoc text) (j .place .round) (record { state = j .state; session = j .session; out = out; tag = tag }) h
+  meets-later h = entered-later (callNow of j assoc text) (j .place .round) (machineOf j out) h
 
-  pub meets-first : (s ss : List ℕ) → j .place .round ≡ 0 → Enters of j assoc text out s ss → Meets of j assoc text out s ss
-  unfolding Meets Enters
-  meets-first s ss h e tag =
-      entered-first (callNow of j assoc text) (j .place .round) (record { state = j .state; session = j .session; out = out; tag = tag }) h ∙ e tag
+  pub meets-first : (s ss : List ℕ) → j .place .round ≡ 0
+      → calls.Enters (of (j .instance)) (inputOf j assoc text) (j .place .part) (j .place .call) (machineOf j out) s ss → Meets of j assoc text out s ss
+  unfolding Meets calls.Enters callNow callOf courseOf
+  meets-first s ss h e = entered-first (callNow of j assoc text) (j .place .round) (machineOf j out) h ∙ e
 
-  pub gone-by : (count rounds : ℕ) → rounds ≡ callNow of j assoc text .rounds → (s ss s′ out′ tag′ : List ℕ) → Meets of j assoc text out s ss → Turns of j count s ss s′
-      → Left of j (eqb (j .place .round + count) rounds) assoc text out s′ ss out′ tag′
-      → record { state = s′; session = ss; out = out′; tag = tag′ } ≡ gone (callNow of j assoc text) (j .place .round) count (machineOf j out)
-  unfolding gone some Meets Turns Left
+  pub left-not : (s : List ℕ) → Left of j false assoc text out s out (j .tag)
+  unfolding Left
+  left-not s session = refl
+
+  pub left-last : (s out′ tag′ : List ℕ)
+      → calls.Leaves (of (j .instance)) (sealingOf (j .direction)) (j .place .part) (j .place .call) assoc text s out (j .tag) out′ tag′
+      → Left of j true assoc text out s out′ tag′
+  unfolding Left calls.Leaves callNow callOf courseOf
+  left-last s out′ tag′ e session = e (j .key) (j .nonce) session
+
+  pub gone-by : (count rounds : ℕ) → rounds ≡ callNow of j assoc text .rounds → (s ss s′ out′ tag′ : List ℕ) → Meets of j assoc text out s ss
+      → calls.Turns (of (j .instance)) (sealingOf (j .direction)) (j .key) (j .place .part) (j .place .round) count s ss s′
+      → Left of j (eqb (j .place .round + count) rounds) assoc text out s′ out′ tag′
+      → machine s′ ss out′ tag′ ≡ gone (callNow of j assoc text) (j .place .round) count (machineOf j out)
+  unfolding gone some Meets calls.Turns Left callNow callOf courseOf
   gone-by count rounds r s ss s′ out′ tag′ e t l =
       let f = callNow of j assoc text in
       let i = j .place .round in
-      let met : some f i count (machineOf j out) ≡ record { state = s′; session = ss; out = out; tag = j .tag } =
-      ap (turns (λ (n : ℕ). f .turn (i + n)) count) (e (j .tag)) ∙ t assoc text out (j .tag) in
-      sym l ∙ ap₂ (λ (n : ℕ) (u : Machine). pick (eqb (i + count) n) (f .leave u) u) r (sym met)
+      let met : some f i count (machineOf j out) ≡ machine s′ ss out (j .tag) =
+      ap (turns (λ (n : ℕ). f .turn (i + n)) count) e ∙ t (j .nonce) assoc text out (j .tag) in
+      sym (l ss) ∙ ap₂ (λ (n : ℕ) (u : Machine). pick (eqb (i + count) n) (f .leave u) u) r (sym met)
 
 module _ (of : ℕ → Scheme) (laws : (i : ℕ) → LawfulScheme (of i)) where
   -- ---- where it stands

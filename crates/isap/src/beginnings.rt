@@ -2,7 +2,8 @@
 ghost use mathlib.Core.Path.{_≡_};
 ghost use Prim.Native.Nat.{_≤_};
 ghost use lib.ListN.{length};
-ghost use Rattle.mode.specs.Isap.{schemeOf};
+ghost use Rattle.instances.specs.Schemes.{schemeOf};
+ghost use Rattle.instances.specs.Limits.{mostAssoc, mostText};
 ghost use Rattle.isap.specs.Beginnings.{limitsRefusal, tagRefusal, orElse, begunJob, noJob, beginSealOf, beginOpenOf};
 use crate::Begun;
 use crate::Job;
@@ -12,22 +13,19 @@ use plan::Place;
 pub fn limits_refusal(instance: u32, key: usize, nonce: usize, a: usize, m: usize) -> u32
     ensures { λ r. ⌜ r ≡ limitsRefusal schemeOf instance key nonce a m ⌝ }
 {
-    if instance < 1 {
+    if !plan::is_known(instance) {
         return 1;
     }
-    if 4 < instance {
-        return 1;
-    }
-    if key != 16 {
+    if key != plan::key_bytes(instance) {
         return 2;
     }
     if nonce != 16 {
         return 3;
     }
-    if 256 < a {
+    if (plan::MOST_ASSOC as usize) < a {
         return 4;
     }
-    if 4096 < m {
+    if (plan::MOST_TEXT as usize) < m {
         return 5;
     }
     0
@@ -72,7 +70,7 @@ fn begun_job(
     a: u32,
     m: u32,
 ) -> Job
-    requires { ⌜ (length (now key) ≡ 16) × (length (now nonce) ≡ 16) × (a ≤ 256) × (m ≤ 4096) ⌝ }
+    requires { ⌜ (length (now key) ≡ 16) × (length (now nonce) ≡ 16) × (a ≤ mostAssoc) × (m ≤ mostText) ⌝ }
     ensures { λ r. ⌜ r ≡ begunJob schemeOf instance direction (now (key .entry)) (now (nonce .entry)) tag a m ⌝ }
 {
     let sealing = direction == 1;
@@ -99,7 +97,7 @@ fn begun_job(
 
 // What a refused beginning hands out: all zeros, which cannot stand.
 fn refused(number: u32) -> Begun
-    ensures { λ r. ⌜ r ≡ record { number = number; job = noJob } ⌝ }
+    ensures { λ r. ⌜ r ≡ record { number = number; rounds = 0; job = noJob } ⌝ }
 {
     let key = [0u8; 16];
     let nonce = [0u8; 16];
@@ -125,7 +123,11 @@ fn refused(number: u32) -> Begun
         state,
         session,
     };
-    Begun { number, job }
+    Begun {
+        number,
+        rounds: 0,
+        job,
+    }
 }
 
 // Begins a sealing of a text of m bytes with a bytes of associated data.
@@ -138,7 +140,11 @@ pub fn begin_seal(instance: u32, key: &[u8], nonce: &[u8], a: u32, m: u32) -> Be
     }
     let tag = [0u8; 16];
     let job = begun_job(instance, 1, key, nonce, tag, a, m);
-    Begun { number: 100, job }
+    Begun {
+        number: 100,
+        rounds: 0,
+        job,
+    }
 }
 
 // Begins an opening, with the tag received.
@@ -152,5 +158,9 @@ pub fn begin_open(instance: u32, key: &[u8], nonce: &[u8], tag: &[u8], a: u32, m
     }
     let received = sixteen(tag);
     let job = begun_job(instance, 2, key, nonce, received, a, m);
-    Begun { number: 100, job }
+    Begun {
+        number: 100,
+        rounds: 0,
+        job,
+    }
 }

@@ -1,7 +1,7 @@
 // For a host in C: numbers and byte slices only. A slice is a pointer and a length.
 ghost use mathlib.Core.Path.{_≡_};
 ghost use Rattle.plan.specs.Planned.{planOf};
-ghost use Rattle.mode.specs.Isap.{schemeOf};
+ghost use Rattle.instances.specs.Schemes.{schemeOf};
 ghost use Rattle.isap.specs.Whole.{sealOf, sealOut, sealTag, openOf, openOut, packed};
 use crate::whole;
 

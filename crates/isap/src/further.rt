@@ -1,21 +1,19 @@
 // How far a job can go in one go: some whole calls of a part that has many, or some rounds of one call.
 ghost use Prim.Native.Nat.{_*_, _≤_, _<_};
-ghost use Rattle.mode.specs.Isap.{schemeOf};
+ghost use Rattle.instances.specs.Schemes.{schemeOf};
+ghost use Rattle.instances.specs.Limits.{mostAssoc, mostText};
 ghost use Rattle.isap.specs.Turns.{At, Rest};
 ghost use Rattle.isap.specs.Sofar.{Fresh, Timed, Turned};
-ghost use Rattle.isap.specs.Rows.{roundsAt, Further};
-ghost use Rattle.isap.specs.Isap.{Many, Rows};
+ghost use Rattle.isap.specs.Rows.{roundsAt, Further, Many, Rows};
 use crate::Job;
-use crate::calls::go;
-use crate::calls::has_row;
 use crate::turns::changed;
 use crate::turns::turn;
 use plan::Place;
 
 // The whole calls that the budget allows, up to the last of the part, or 0 where a single call is next.
 fn row_calls(job: Job, left: u32) -> u32
-    requires { ⌜ (At schemeOf job (job .place)) × (job .assoc ≤ 256) × (job .text ≤ 4096) ⌝ }
-    ensures { λ r. ⌜ Rows job left r ⌝ }
+    requires { ⌜ (At schemeOf job (job .place)) × (job .assoc ≤ mostAssoc) × (job .text ≤ mostText) ⌝ }
+    ensures { λ r. ⌜ Rows schemeOf job left r ⌝ }
 {
     let at = job.place;
     if at.round != 0 {
@@ -24,10 +22,10 @@ fn row_calls(job: Job, left: u32) -> u32
     if at.call == 0 {
         return 0;
     }
-    if !has_row(job) {
+    let sealing = job.direction == 1;
+    if !calls::has_row(job.instance, sealing, at.part) {
         return 0;
     }
-    let sealing = job.direction == 1;
     let last = plan::count_at(job.instance, sealing, job.assoc, job.text, at.part) - 1;
     let calls = last - at.call;
     let fit = left / plan::rounds_at(job.instance, sealing, at.part);
@@ -36,12 +34,26 @@ fn row_calls(job: Job, left: u32) -> u32
 
 // The record after these calls.
 fn row(job: Job, assoc: &[u8], text: &[u8], out: &mut [u8], calls: u32) -> Job
-    requires { ⌜ (Fresh schemeOf job (now assoc) (now text) (now out)) × (Many job calls) ⌝ }
+    requires { ⌜ (Fresh schemeOf job (now assoc) (now text) (now out)) × (Many schemeOf job calls) ⌝ }
     ensures { λ r. ⌜ Turned schemeOf job (now (assoc .entry)) (now (text .entry)) (now (out .entry)) (calls * roundsAt schemeOf job) r (now (out .exit)) ⌝ }
 {
     let sealing = job.direction == 1;
     let at = job.place;
-    let state = go(job, assoc, text, out, calls);
+    let nonce = job.nonce;
+    let met = job.state;
+    let session = job.session;
+    let state = calls::go(
+        job.instance,
+        sealing,
+        at,
+        nonce,
+        met,
+        session,
+        assoc,
+        text,
+        out,
+        calls,
+    );
     let done = job.done + calls * plan::rounds_at(job.instance, sealing, at.part);
     let place = Place {
         part: at.part,
@@ -49,7 +61,6 @@ fn row(job: Job, assoc: &[u8], text: &[u8], out: &mut [u8], calls: u32) -> Job
         round: 0,
     };
     let tag = job.tag;
-    let session = job.session;
     changed(job, tag, done, place, job.ending, state, session)
 }
 

@@ -1,6 +1,5 @@
 // ISAP for a station: jobs begun and sliced by budgets of permutation rounds, and whole calls.
 mod beginnings;
-mod calls;
 mod exports;
 mod further;
 mod slices;
@@ -39,9 +38,10 @@ pub struct Job {
     pub session: [u8; 50],
 }
 
-// What a beginning answers: document 01's number, and the record. It does no rounds.
+// What a beginning answers: document 01's number, the rounds it did, which are none, and the record.
 pub struct Begun {
     pub number: u32,
+    pub rounds: u32,
     pub job: Job,
 }
 

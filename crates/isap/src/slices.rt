@@ -1,34 +1,11 @@
 // A slice: a record, what belongs to it, and a budget of rounds.
 ghost use mathlib.Core.Path.{_≡_};
-ghost use Prim.Native.Nat.{ℕ, _+_, _≤_};
-ghost use Rattle.mode.specs.Isap.{schemeOf};
+ghost use Rattle.instances.specs.Schemes.{schemeOf};
 ghost use Rattle.isap.specs.Slices.{numberOf, refusalOf, sliceOf, outOf};
 use crate::Job;
 use crate::Sliced;
 use crate::further::further;
 use crate::standing::stands;
-
-// The rounds up to the decision, and after it.
-fn front_rounds(instance: u32, sealing: bool, a: u32, m: u32) -> u32
-    requires { ⌜ (a ≤ 256) × (m ≤ 4096) ⌝ }
-    ensures { λ r. ⌜ r ≡ schemeOf instance .frontCount sealing a m ⌝ }
-{
-    let v = plan::verify_rounds(instance, a, m);
-    if !sealing {
-        return v;
-    }
-    plan::encrypt_rounds(instance, m) + v
-}
-
-fn back_rounds(instance: u32, sealing: bool, m: u32) -> u32
-    requires { ⌜ m ≤ 4096 ⌝ }
-    ensures { λ r. ⌜ ((a : ℕ) → r ≡ schemeOf instance .backCount sealing a m) ⌝ }
-{
-    if sealing {
-        return 0;
-    }
-    plan::encrypt_rounds(instance, m)
-}
 
 // Document 01's number of an ending.
 fn number_of(ending: u32) -> u32
@@ -78,8 +55,8 @@ pub fn slice(job: Job, assoc: &[u8], text: &[u8], out: &mut [u8], budget: u32) -
         };
     }
     let sealing = job.direction == 1;
-    let front = front_rounds(job.instance, sealing, job.assoc, job.text);
-    let back = back_rounds(job.instance, sealing, job.text);
+    let front = plan::front_rounds(job.instance, sealing, job.assoc, job.text);
+    let back = plan::back_rounds(job.instance, sealing, job.assoc, job.text);
     let mut current = job;
     let mut left = budget;
     while 0 < left {

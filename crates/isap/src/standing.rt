@@ -1,26 +1,26 @@
 // Whether a record can stand, from its instance, direction, lengths and rounds done.
 ghost use mathlib.Core.Path.{_≡_};
 ghost use mathlib.Core.Bool.{false};
-ghost use Prim.Native.Nat.{_+_, _≤_};
+ghost use Prim.Native.Nat.{_≤_};
 ghost use lib.Dec.{eqb};
 ghost use Rattle.bits.specs.Pick.{pick};
-ghost use Rattle.mode.specs.Isap.{schemeOf};
+ghost use Rattle.instances.specs.Schemes.{schemeOf};
+ghost use Rattle.instances.specs.Limits.{mostAssoc, mostText};
 ghost use Rattle.isap.specs.Slices.{samePlace, placeRight, limitsRight, standsOf};
 use crate::Job;
 use plan::Place;
 
-// An ending that the rounds done allow, with v rounds of verification and e of encryption.
-fn ending_right(sealing: bool, done: u32, ending: u32, e: u32, v: u32) -> bool
-    requires { ⌜ (e ≤ 7692) × (v ≤ 8124) ⌝ }
-    ensures { λ r. ⌜ r ≡ pick (eqb ending 2) (pick sealing false (eqb done v)) (eqb ending (pick (eqb done (e + v)) 1 0)) ⌝ }
+// An ending that the rounds done allow, with `front` rounds up to the decision and `total` in all.
+fn ending_right(sealing: bool, done: u32, ending: u32, front: u32, total: u32) -> bool
+    ensures { λ r. ⌜ r ≡ pick (eqb ending 2) (pick sealing false (eqb done front)) (eqb ending (pick (eqb done total) 1 0)) ⌝ }
 {
     if ending == 2 {
         if sealing {
             return false;
         }
-        return done == v;
+        return done == front;
     }
-    if done == e + v {
+    if done == total {
         return ending == 1;
     }
     ending == 0
@@ -40,7 +40,7 @@ fn same_place(v: Place, w: Place) -> bool
 
 // The place is walked anew here, and only here: a slice moves it on.
 fn place_right(job: Job, sealing: bool) -> bool
-    requires { ⌜ (job .assoc ≤ 256) × (job .text ≤ 4096) × (sealing ≡ eqb (job .direction) 1) ⌝ }
+    requires { ⌜ (job .assoc ≤ mostAssoc) × (job .text ≤ mostText) × (sealing ≡ eqb (job .direction) 1) ⌝ }
     ensures { λ r. ⌜ r ≡ placeRight schemeOf job ⌝ }
 {
     let w = plan::place_after(job.instance, sealing, job.assoc, job.text, job.done);
@@ -52,10 +52,7 @@ fn place_right(job: Job, sealing: bool) -> bool
 fn limits_right(instance: u32, direction: u32, a: u32, m: u32) -> bool
     ensures { λ r. ⌜ r ≡ limitsRight instance direction a m ⌝ }
 {
-    if instance < 1 {
-        return false;
-    }
-    if 4 < instance {
+    if !plan::is_known(instance) {
         return false;
     }
     if direction < 1 {
@@ -64,10 +61,10 @@ fn limits_right(instance: u32, direction: u32, a: u32, m: u32) -> bool
     if 2 < direction {
         return false;
     }
-    if 256 < a {
+    if plan::MOST_ASSOC < a {
         return false;
     }
-    m <= 4096
+    m <= plan::MOST_TEXT
 }
 
 pub fn stands(job: Job) -> bool
@@ -77,12 +74,12 @@ pub fn stands(job: Job) -> bool
         return false;
     }
     let sealing = job.direction == 1;
-    let v = plan::verify_rounds(job.instance, job.assoc, job.text);
-    let e = plan::encrypt_rounds(job.instance, job.text);
-    if e + v < job.done {
+    let front = plan::front_rounds(job.instance, sealing, job.assoc, job.text);
+    let total = front + plan::back_rounds(job.instance, sealing, job.assoc, job.text);
+    if total < job.done {
         return false;
     }
-    if !ending_right(sealing, job.done, job.ending, e, v) {
+    if !ending_right(sealing, job.done, job.ending, front, total) {
         return false;
     }
     place_right(job, sealing)

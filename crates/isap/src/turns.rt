@@ -2,17 +2,14 @@
 ghost use mathlib.Core.Path.{_≡_};
 ghost use Prim.Native.Nat.{_+_, _≤_};
 ghost use Rattle.stopping.specs.Course.{endingOf};
-ghost use Rattle.mode.specs.Isap.{schemeOf};
+ghost use Rattle.instances.specs.Schemes.{schemeOf};
 ghost use Rattle.isap.specs.Records.{changed as changedTo};
+ghost use Rattle.instances.specs.Limits.{mostRounds};
 ghost use Rattle.isap.specs.Turns.{Here, Ready, Meets, Left, Ends};
 ghost use Rattle.isap.specs.Sofar.{Timed, Turned};
 use crate::Job;
-use crate::calls::decide;
-use crate::calls::enter;
-use crate::calls::leave;
-use crate::calls::rounds;
+use calls::Two;
 use plan::Place;
-use sponge::Two;
 
 // The state and the session bytes that the next round meets: a call's first round comes after what enters the call.
 fn entered(job: Job, assoc: &[u8], text: &[u8], out: &[u8]) -> Two
@@ -20,12 +17,28 @@ fn entered(job: Job, assoc: &[u8], text: &[u8], out: &[u8]) -> Two
     ensures { λ r. ⌜ Meets schemeOf job (now (assoc .entry)) (now (text .entry)) (now (out .entry)) (r .state) (r .session) ⌝ }
 {
     let at = job.place;
-    if at.round == 0 {
-        return enter(job, assoc, text, out);
-    }
     let state = job.state;
     let session = job.session;
-    Two { state, session }
+    if at.round != 0 {
+        return Two { state, session };
+    }
+    let sealing = job.direction == 1;
+    let key = job.key;
+    let nonce = job.nonce;
+    let tag = job.tag;
+    calls::enter(
+        job.instance,
+        sealing,
+        at,
+        key,
+        nonce,
+        tag,
+        state,
+        session,
+        assoc,
+        text,
+        out,
+    )
 }
 
 // What is left behind, if the call's last round is done: in the output, and as the tag that is handed back.
@@ -33,19 +46,20 @@ fn left_behind(
     job: Job,
     last: bool,
     state: [u8; 50],
-    session: [u8; 50],
     assoc: &[u8],
     text: &[u8],
     out: &mut [u8],
 ) -> [u8; 16]
     requires { ⌜ Here schemeOf job (now assoc) (now text) (now out) ⌝ }
-    ensures { λ r. ⌜ Left schemeOf job last (now (assoc .entry)) (now (text .entry)) (now (out .entry)) state session (now (out .exit)) r ⌝ }
+    ensures { λ r. ⌜ Left schemeOf job last (now (assoc .entry)) (now (text .entry)) (now (out .entry)) state (now (out .exit)) r ⌝ }
 {
+    let tag = job.tag;
     if !last {
-        let tag = job.tag;
         return tag;
     }
-    leave(job, state, session, assoc, text, out)
+    let sealing = job.direction == 1;
+    let at = job.place;
+    calls::leave(job.instance, sealing, at, tag, state, assoc, text, out)
 }
 
 // The ending that round `done` gives, with `front` rounds up to the decision and `back` after it.
@@ -58,11 +72,12 @@ fn ending_after(
     state: [u8; 50],
     session: [u8; 50],
 ) -> u32
-    requires { ⌜ front + back ≤ 15816 ⌝ }
+    requires { ⌜ front + back ≤ mostRounds ⌝ }
     ensures { λ r. ⌜ Ends schemeOf job done front back tag state session r ⌝ }
 {
     if done == front {
-        if !decide(job, tag, state, session) {
+        let sealing = job.direction == 1;
+        if !calls::decide(job.instance, sealing, tag, state, session) {
             return 2;
         }
         if back == 0 {
@@ -125,9 +140,10 @@ pub fn turn(
     let two = entered(job, assoc, text, &out[..]);
     let met = two.state;
     let session = two.session;
-    let state = rounds(job, met, session, count);
+    let key = job.key;
+    let state = calls::rounds(job.instance, sealing, at, key, met, session, count);
     let last = at.round + count == of_call;
-    let tag = left_behind(job, last, state, session, assoc, text, out);
+    let tag = left_behind(job, last, state, assoc, text, out);
     let done = job.done + count;
     let ending = ending_after(job, done, front, back, tag, state, session);
     let place = plan::moved(job.instance, sealing, job.assoc, job.text, at, count);

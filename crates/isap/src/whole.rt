@@ -1,7 +1,7 @@
 // Whole calls: a beginning and one slice, with a budget that ends every job.
 ghost use mathlib.Core.Path.{_≡_};
 ghost use lib.ListN.{length};
-ghost use Rattle.mode.specs.Isap.{schemeOf};
+ghost use Rattle.instances.specs.Schemes.{schemeOf};
 ghost use Rattle.isap.specs.Whole.{outRefusal, wholeRefusal, sealOf, sealOut, sealTag, openOf, openOut};
 use crate::Answer;
 use crate::beginnings::begin_open;
@@ -10,6 +10,9 @@ use crate::beginnings::limits_refusal;
 use crate::beginnings::or_else;
 use crate::beginnings::tag_refusal;
 use crate::slices::slice;
+
+// The largest budget, which ends every job.
+const LARGEST: u32 = 4294967295;
 
 // 6, or 0.
 fn out_refusal(out: usize, m: usize) -> u32
@@ -72,7 +75,7 @@ pub fn seal(
     }
     let begun = begin_seal(instance, key, nonce, a as u32, m as u32);
     let job = begun.job;
-    let ended = slice(job, assoc, text, out, 15816);
+    let ended = slice(job, assoc, text, out, LARGEST);
     let last = ended.job;
     let made = last.tag;
     put_tag(tag, made);
@@ -105,7 +108,7 @@ pub fn open(
     }
     let begun = begin_open(instance, key, nonce, tag, a as u32, m as u32);
     let job = begun.job;
-    let ended = slice(job, assoc, text, out, 15816);
+    let ended = slice(job, assoc, text, out, LARGEST);
     Answer {
         number: ended.number,
         rounds: ended.rounds,

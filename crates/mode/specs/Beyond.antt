@@ -8,38 +8,18 @@ use native.Mathlib.Omega.{arith}
 use lib.ListN.{length, take, drop, replicate, length-append, length-drop, length-replicate, drop-of-length-le}
 use lib.Seq.{take-at, drop-at, take-all, length-take-le, take-append-le, drop-append-le}
 use Rattle.bits.specs.Pick.{pick}
-use Rattle.bits.specs.Run.{front, length-once}
+use Rattle.bits.specs.Run.{front, length-once, front-within}
 use Rattle.bits.specs.Xors.{xors-front}
-use Rattle.bits.specs.Put.{put, putAt, length-put, length-putAt}
-use Rattle.scheme.specs.Machine.{with-tails, Exact}
+use Rattle.bits.specs.Put.{put, putAt, length-put, length-putAt, put-within, putAt-within}
+use Rattle.scheme.specs.Machine.{with-tails, Exact, Machine, Input, onState, first, cipherOf, nothing}
 use Rattle.scheme.specs.Blind.{Blind, BlindPart, BlindParts, BlindCourse, blind-none, blind-append}
-use Rattle.mode.specs.Strings.{xorInto, xorAt, block, padded, bitAt, xorBit, same}
-use Rattle.mode.specs.StringLaws.{length-xorInto, length-xorAt, length-xorBit, length-block, xorInto-front, xorAt-front, xorBit-front}
+use Rattle.bits.specs.Strings.{xorInto, xorAt, block, same}
+use Rattle.mode.specs.Strings.{padded, bitAt, xorBit}
+use Rattle.bits.specs.StringLaws.{length-xorInto, length-xorAt, length-block, xorInto-front, xorAt-front}
+use Rattle.mode.specs.StringLaws.{length-xorBit, xorBit-front}
 use Rattle.mode.specs.Params.{Params, LawfulParams, iv}
 use Rattle.mode.specs.PaperLaws.{length-start}
-use Rattle.mode.specs.Parts.{Machine, Input, onState, first, cipherOf, tagOf, part, nothing, keyStart, keyBits, keyEnd, written, texts, macStart, assocs, ciphers, setAside, macKeyStart, macKeyBits, macKeyEnd, takeBack, tagged, macEnd, encParts, macParts, sealingCourse, openingCourse, course}
-
--- ---- strings put into a longer buffer
-
-put-within : (xs s t : List ℕ) → length xs ≤ length s → put xs (s ++ t) ≡ put xs s ++ t
-unfolding put
-put-within xs s t h = ap (λ (u : List ℕ). xs ++ u) (drop-append-le (length xs) s t h) ∙ sym (append-assoc xs (drop (length xs) s) t)
-
-putAt-within : (i : ℕ) (xs s t : List ℕ) → i + length xs ≤ length s → putAt i xs (s ++ t) ≡ putAt i xs s ++ t
-unfolding putAt
-putAt-within i xs s t h =
-    let rest = drop (i + length xs) s in
-    ap₂ (λ (u v : List ℕ). u ++ (xs ++ v)) (take-append-le i s t (omega arith)) (drop-append-le (i + length xs) s t h)
-    ∙ ap (λ (u : List ℕ). take i s ++ u) (sym (append-assoc xs rest t))
-    ∙ sym (append-assoc (take i s) (xs ++ rest) t)
-
-front-within : (n : ℕ) (f : List ℕ → List ℕ) (s t : List ℕ) → length s ≡ n → front n f (s ++ t) ≡ front n f s ++ t
-unfolding front
-front-within n f s t h =
-    ap₂ (λ (u v : List ℕ). f u ++ v) (take-at s t n h) (drop-at s t n h)
-    ∙ ap (λ (u : List ℕ). u ++ t)
-    (sym (append-nil (f s))
-    ∙ sym (ap₂ (λ (u v : List ℕ). f u ++ v) (take-all n s (omega arith)) (drop-of-length-le s {i = n} (omega arith))))
+use Rattle.mode.specs.Parts.{tagOf, part, keyStart, keyBits, keyEnd, written, texts, macStart, assocs, ciphers, setAside, macKeyStart, macKeyBits, macKeyEnd, takeBack, tagged, macEnd, encParts, macParts, sealingCourse, openingCourse, course}
 
 -- ---- the parts
 

@@ -14,14 +14,14 @@ use Rattle.bits.specs.Xors.{xors, xors-front}
 use Rattle.stopping.specs.Stopped.{whole}
 use Rattle.stopping.specs.Parts.{callOf}
 use Rattle.bits.specs.Put.{put, putAt, put-front}
-use Rattle.mode.specs.Strings.{xorInto, xorAt, block, padded, bitAt, xorBit}
-use Rattle.mode.specs.StringLaws.{length-xorInto, length-xorAt, length-xorBit, length-block, xorInto-front, xorAt-front, xorBit-front}
+use Rattle.bits.specs.Strings.{xorInto, xorAt, block}
+use Rattle.mode.specs.Strings.{padded, bitAt, xorBit}
+use Rattle.bits.specs.StringLaws.{length-xorInto, length-xorAt, length-block, xorInto-front, xorAt-front}
+use Rattle.mode.specs.StringLaws.{length-xorBit, xorBit-front}
 use Rattle.mode.specs.Params.{Params, LawfulParams, perm, iv}
 use Rattle.mode.specs.PaperLaws.{perm-long, length-start}
-use Rattle.mode.specs.Parts.{Machine, Input, onState, first, cipherOf, tagOf, part, keyStart, keyBits, keyEnd, written, texts, macStart, assocs, ciphers, setAside, macKeyStart, macKeyBits, macKeyEnd, takeBack, tagged, macEnd}
-
-abbrev pub machine : (state session out tag : List ℕ) → Machine
-machine s ss o g = record { state = s; session = ss; out = o; tag = g }
+use Rattle.scheme.specs.Machine.{Machine, Input, machine, onState, first, cipherOf}
+use Rattle.mode.specs.Parts.{tagOf, part, keyStart, keyBits, keyEnd, written, texts, macStart, assocs, ciphers, setAside, macKeyStart, macKeyBits, macKeyEnd, takeBack, tagged, macEnd}
 
 -- ---- the rounds of a call
 

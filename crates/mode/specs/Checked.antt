@@ -11,7 +11,8 @@ use Rattle.bits.specs.Every.{and-left, and-right}
 use Rattle.stopping.specs.Stopped.{total}
 use Rattle.stopping.specs.Parts.{row, total-row}
 use Rattle.mode.specs.Paper.{blocks}
-use Rattle.mode.specs.Parts.{Input, unlessEmpty, encParts, macParts}
+use Rattle.scheme.specs.Machine.{Input, unlessEmpty}
+use Rattle.mode.specs.Parts.{encParts, macParts}
 use Rattle.mode.specs.Counts.{rekeyRounds, verifyRounds, encryptRounds, rounds-mac, front-count, frontCount, frontShapes, shapes-mac, shapes-sealing}
 use Rattle.mode.specs.Instances.{isapA128a, isapA128, isapK128a, isapK128, paramsOf}
 

@@ -12,7 +12,8 @@ use Rattle.stopping.specs.Parts.{Shape, roundsIn, EachSome, shapes, shapes-appe
 use Rattle.stopping.specs.Course.{parts, frontRounds, backRounds, Lawful}
 use Rattle.mode.specs.Params.{Params, LawfulParams}
 use Rattle.mode.specs.Paper.{blocks}
-use Rattle.mode.specs.Parts.{Input, unlessEmpty, part, keyStart, keyBits, keyEnd, texts, macStart, assocs, ciphers, macKeyStart, macKeyBits, macKeyEnd, macEnd, encParts, macParts, sealingCourse, openingCourse, course}
+use Rattle.scheme.specs.Machine.{Input, unlessEmpty}
+use Rattle.mode.specs.Parts.{part, keyStart, keyBits, keyEnd, texts, macStart, assocs, ciphers, macKeyStart, macKeyBits, macKeyEnd, macEnd, encParts, macParts, sealingCourse, openingCourse, course}
 
 -- ---- the formulas, for a bytes of associated data and m of text
 

@@ -17,13 +17,16 @@ use Rattle.stopping.specs.Stopped.{Call, whole}
 use Rattle.stopping.specs.Rows.{run, calls, run-append}
 use Rattle.stopping.specs.Parts.{Part, callOf, partRow, row}
 use Rattle.bits.specs.Put.{putAt, length-putAt, take-putAt}
-use Rattle.mode.specs.Strings.{xorInto, xorAt, cut, block, padded, bitsOf, bitAt, xorBit}
-use Rattle.mode.specs.StringLaws.{length-xorInto, length-xorAt, length-xorBit, length-block, length-bitsOf, drop-next}
+use Rattle.bits.specs.Strings.{xorInto, xorAt, cut, block}
+use Rattle.mode.specs.Strings.{padded, bitsOf, bitAt, xorBit}
+use Rattle.bits.specs.StringLaws.{length-xorInto, length-xorAt, length-block, drop-next}
+use Rattle.mode.specs.StringLaws.{length-xorBit, length-bitsOf}
 use Rattle.mode.specs.Params.{Params, LawfulParams, perm, iv}
 use Rattle.mode.specs.Paper.{absorbBits, rekeyed, rekeyMac, rekeyEnc, blocks, squeeze, isapEnc, paddedBlocks, absorb, hashed, finished}
 use Rattle.mode.specs.PaperLaws.{perm-long, length-start, bits-long, rekeyed-long, absorb-long, padded-short, hashed-long, key-long, blocks-are}
-use Rattle.mode.specs.Parts.{Machine, Input, first, unlessEmpty, cipherOf, tagOf, part, keyStart, keyBits, keyEnd, texts, macStart, assocs, ciphers, macKeyStart, macKeyBits, macKeyEnd, macEnd, encParts, macParts}
-use Rattle.mode.specs.Calls.{machine, noncePut, nonce-long, w-keyStart, w-keyBits, w-keyEnd, w-texts, w-macStart, w-assocs, w-ciphers, w-macKeyStart, w-macKeyBits, w-macKeyEnd, w-macEnd}
+use Rattle.scheme.specs.Machine.{Machine, Input, first, unlessEmpty, cipherOf, machine}
+use Rattle.mode.specs.Parts.{tagOf, part, keyStart, keyBits, keyEnd, texts, macStart, assocs, ciphers, macKeyStart, macKeyBits, macKeyEnd, macEnd, encParts, macParts}
+use Rattle.mode.specs.Calls.{noncePut, nonce-long, w-keyStart, w-keyBits, w-keyEnd, w-texts, w-macStart, w-assocs, w-ciphers, w-macKeyStart, w-macKeyBits, w-macKeyEnd, w-macEnd}
 
 -- the state after k blocks of text
 unfoldable pub squeezed : Params → ℕ → List ℕ → List ℕ

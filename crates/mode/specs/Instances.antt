@@ -1,7 +1,7 @@
 -- The four instances (document 001, Table 2.2; document 01, 'The four instances'), their initial values, and the round counts to check.
 -- Assumes nothing.
 use mathlib.Core.Path.{_≡_, refl}
-use mathlib.Core.Bool.{Bool, true, false, _&&_}
+use mathlib.Core.Bool.{Bool, true, false}
 use mathlib.Core.List.{List, [], _∷_}
 use Prim.Native.Nat.{ℕ, _-_, _*_}
 use lib.Dec.{eqb, ltb, leb}
@@ -29,12 +29,9 @@ isapK128a = record { n = 50; b = 18; sH = 16; sB = 1; sE = 8; sK = 8; most = 20;
 unfoldable pub isapK128 : Params
 isapK128 = record { n = 50; b = 18; sH = 20; sB = 12; sE = 12; sK = 12; most = 20; round = keccakRound }
 
--- document 01's numbers
+-- by document 01's numbers
 unfoldable pub paramsOf : ℕ → Params
 paramsOf i = pick (eqb i 1) isapA128a (pick (eqb i 2) isapA128 (pick (eqb i 3) isapK128a isapK128))
-
-unfoldable pub known : ℕ → Bool
-known i = leb 1 i && leb i 4
 
 -- what holds for the four holds for every number's instance; where it matters, by the tests for 1 and 2
 pub by-number : (P : (is-1 is-2 : Bool) → Params → Type 0) → ((b : Bool) → P true b isapA128a) → P false true isapA128 → P false false isapK128a

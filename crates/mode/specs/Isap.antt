@@ -17,8 +17,8 @@ use Rattle.scheme.specs.Machine.{Machine, Input, Sealed, Opened, Opened.plainte
 use Rattle.scheme.specs.Scheme.{Scheme, allShapes, partsOf}
 use Rattle.scheme.specs.Lawful as schemes
 use Rattle.scheme.specs.Lawful.{Keyed, finished, KeepsCourse, LawfulScheme}
-use Rattle.mode.specs.Strings.{block, same}
-use Rattle.mode.specs.StringLaws.{length-block, same-true}
+use Rattle.bits.specs.Strings.{block, same}
+use Rattle.bits.specs.StringLaws.{length-block, same-true}
 use Rattle.mode.specs.Params.{Params, LawfulParams}
 use Rattle.mode.specs.Paper.{isapEnc, isapMac, seal, unseal}
 use Rattle.mode.specs.PaperLaws.{enc-length, enc-twice, length-mac, open-sealed}
@@ -27,7 +27,6 @@ use Rattle.mode.specs.Counts.{verifyRounds, encryptRounds, encShapes, ma
 use Rattle.mode.specs.Theorems.{Ready, sealing-accepted, sealing-out, sealing-tag, opening-out, opening-is-paper}
 use Rattle.mode.specs.Kept.{Given, course-kept}
 use Rattle.mode.specs.Beyond.{course-blind}
-use Rattle.mode.specs.Instances.{isapA128a, isapA128, isapK128a, isapK128, paramsOf, by-instance, lawful-instance}
 
 unfoldable pub isapScheme : Params → Scheme
 isapScheme p =
@@ -42,10 +41,6 @@ isapScheme p =
       seal = seal p;
       unseal = unseal p;
     }
-
--- the scheme of an instance: the one place that lists them
-unfoldable pub schemeOf : ℕ → Scheme
-schemeOf i = isapScheme (paramsOf i)
 
 -- ---- the output keeps its length
 
@@ -242,12 +237,3 @@ module _ (p : Params) (l : LawfulParams p) where
         openSealed = λ key nonce a m hk hn ha hm. open-sealed p l key nonce (hk .long) (hn .long) a m;
         sealedBack = λ key nonce a c tag m hk hn ha hc ht e. sealed-back p l key nonce (hk .long) (hn .long) a c tag m e;
       }
-
-pub lawful-scheme : (i : ℕ) → LawfulScheme (schemeOf i)
-unfolding schemeOf
-lawful-scheme i = lawful-isap (paramsOf i) (lawful-instance i)
-
--- a record's state has room for each
-pub scheme-fits : (i : ℕ) → schemeOf i .n ≤ 50
-unfolding schemeOf isapScheme isapA128a isapA128 isapK128a isapK128
-scheme-fits i = by-instance (λ p. p .n ≤ 50) (omega arith) (omega arith) (omega arith) (omega arith) i

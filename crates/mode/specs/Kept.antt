@@ -15,13 +15,15 @@ use Rattle.bits.specs.Run.{front, length-once, bytes-once}
 use Rattle.bits.specs.Xors.{xors, length-xors, bytes-xors}
 use Rattle.stopping.specs.Kept.{KeepsPart, KeepsParts, keeps-parts}
 use Rattle.bits.specs.Put.{put, putAt, length-put, length-putAt, bytes-put, bytes-putAt}
-use Rattle.scheme.specs.Machine.{Buffer, Sound}
+use Rattle.scheme.specs.Machine.{Buffer, Sound, Machine, Input, first, cipherOf, nothing}
 use Rattle.scheme.specs.Lawful.{KeepsCourse}
-use Rattle.mode.specs.Strings.{xorInto, xorAt, block, padded, bitAt, xorBit}
-use Rattle.mode.specs.StringLaws.{length-xorInto, length-xorAt, length-xorBit, length-block, bytes-xorInto, bytes-xorAt, bytes-xorBit, bytes-block, bytes-padded}
+use Rattle.bits.specs.Strings.{xorInto, xorAt, block}
+use Rattle.mode.specs.Strings.{padded, bitAt, xorBit}
+use Rattle.bits.specs.StringLaws.{length-xorInto, length-xorAt, length-block, bytes-xorInto, bytes-xorAt, bytes-block}
+use Rattle.mode.specs.StringLaws.{length-xorBit, bytes-xorBit, bytes-padded}
 use Rattle.mode.specs.Params.{Params, LawfulParams, iv}
 use Rattle.mode.specs.PaperLaws.{length-start}
-use Rattle.mode.specs.Parts.{Machine, Input, first, cipherOf, tagOf, part, nothing, keyStart, keyBits, keyEnd, written, texts, macStart, assocs, ciphers, setAside, macKeyStart, macKeyBits, macKeyEnd, takeBack, tagged, macEnd, encParts, macParts, sealingCourse, openingCourse, course}
+use Rattle.mode.specs.Parts.{tagOf, part, keyStart, keyBits, keyEnd, written, texts, macStart, assocs, ciphers, setAside, macKeyStart, macKeyBits, macKeyEnd, takeBack, tagged, macEnd, encParts, macParts, sealingCourse, openingCourse, course}
 
 -- what a job is given
 pub record Given (x : Input) : Type 0 where

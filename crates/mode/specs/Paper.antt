@@ -6,8 +6,9 @@ use Prim.Native.Nat.{ℕ, _+_, _-_, _/_}
 use lib.ListN.{length, take, drop}
 use Rattle.bits.specs.Pick.{pick}
 use Rattle.bits.specs.Xors.{xors}
-pub use Rattle.scheme.specs.Machine.{Sealed, Opened, Opened.plaintext, Opened.refused}
-use Rattle.mode.specs.Strings.{xorInto, xorAt, cut, padded, bitsOf, bitAt, xorBit, same}
+use Rattle.scheme.specs.Machine.{Sealed, Opened, Opened.plaintext, Opened.refused}
+use Rattle.bits.specs.Strings.{xorInto, xorAt, cut, same}
+use Rattle.mode.specs.Strings.{padded, bitsOf, bitAt, xorBit}
 use Rattle.mode.specs.Params.{Params, perm, iv}
 
 -- ---- Algorithm 4, IsapRk: re-keying with the string y, whose w = 128 bits enter one at a time

@@ -12,10 +12,13 @@ use lib.Seq.{take-at, drop-at, take-all, take-nil, drop-nil, length-take-le}
 use Rattle.bits.specs.Pick.{pick}
 use Rattle.bits.specs.Run.{length-rounds}
 use Rattle.bits.specs.Xors.{xors, length-xors, xors-twice}
-use Rattle.mode.specs.Strings.{xorInto, xorAt, cut, padded, bitsOf, bitAt, xorBit}
-use Rattle.mode.specs.StringLaws.{length-xorInto, length-xorAt, length-xorBit, same-refl}
+use Rattle.bits.specs.Strings.{xorInto, xorAt, cut}
+use Rattle.mode.specs.Strings.{padded, bitsOf, bitAt, xorBit}
+use Rattle.bits.specs.StringLaws.{length-xorInto, length-xorAt, same-refl}
+use Rattle.mode.specs.StringLaws.{length-xorBit}
 use Rattle.mode.specs.Params.{Params, LawfulParams, perm, iv}
-use Rattle.mode.specs.Paper.{absorbBits, rekeyed, rekeyMac, rekeyEnc, blocks, squeeze, isapEnc, paddedBlocks, absorb, hashed, finished, isapMac, seal, Opened.plaintext, Opened.refused, unseal}
+use Rattle.scheme.specs.Machine.{Opened.plaintext, Opened.refused}
+use Rattle.mode.specs.Paper.{absorbBits, rekeyed, rekeyMac, rekeyEnc, blocks, squeeze, isapEnc, paddedBlocks, absorb, hashed, finished, isapMac, seal, unseal}
 
 module _ (p : Params) (l : LawfulParams p) where
   -- ---- states keep their n bytes

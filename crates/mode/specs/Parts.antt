@@ -11,31 +11,11 @@ use Rattle.bits.specs.Xors.{xors}
 use Rattle.stopping.specs.Parts.{Part}
 use Rattle.stopping.specs.Course.{Course}
 use Rattle.bits.specs.Put.{put, putAt}
-pub use Rattle.scheme.specs.Machine.{Machine, Input}
-use Rattle.mode.specs.Strings.{xorInto, xorAt, block, padded, bitAt, xorBit, same}
+use Rattle.scheme.specs.Machine.{Machine, Input, cipherOf, onState, first, nothing, unlessEmpty}
+use Rattle.bits.specs.Strings.{xorInto, xorAt, block, same}
+use Rattle.mode.specs.Strings.{padded, bitAt, xorBit}
 use Rattle.mode.specs.Params.{Params, iv}
 use Rattle.mode.specs.Paper.{blocks}
-
-abbrev pub onState : (List ℕ → List ℕ) → Machine → Machine
-onState f m = record { state = f (m .state); session = m .session; out = m .out; tag = m .tag }
-
--- done with the first call of a part alone
-abbrev pub first : ℕ → (List ℕ → List ℕ) → List ℕ → List ℕ
-first zero f s = f s
-first (suc i) f s = s
-
--- nothing goes with the round
-abbrev pub nothing : ℕ → Machine → Machine
-nothing i m = m
-
--- an empty text has no encryption part
-unfoldable pub unlessEmpty : ℕ → ℕ → ℕ
-unlessEmpty zero k = 0
-unlessEmpty (suc m) k = k
-
--- the ciphertext: a sealing's own output, an opening's text
-unfoldable pub cipherOf : Input → List ℕ → List ℕ
-cipherOf x out = pick (x .sealing) out (x .text)
 
 -- the tag: a sealing's is the first 16 bytes of the last state, an opening keeps the one received
 unfoldable pub tagOf : Input → List ℕ → List ℕ → List ℕ

@@ -5,11 +5,11 @@ use Prim.Native.Nat.{ℕ, zero, suc, _+_, _-_, _*_, _/_, _≤_}
 use native.Mathlib.Nat.{mul-le-mul, mul-le-mul-left, div-mul-le-self}
 use native.Mathlib.Omega.{arith}
 use Rattle.mode.specs.Paper.{blocks}
-use Rattle.mode.specs.Parts.{unlessEmpty}
+use Rattle.scheme.specs.Machine.{unlessEmpty}
 use Rattle.mode.specs.Instances.{paramsOf}
 use Rattle.mode.specs.Counts.{rekeyRounds, verifyRounds, encryptRounds}
-use Rattle.plan.specs.declared.Numbers.{Numbers}
-use Rattle.plan.specs.Planned.{OfInstance}
+use Rattle.plan.specs.declared.numbers.Numbers.{Numbers}
+use Rattle.plan.specs.Numbers.{OfInstance}
 
 pub unless-not : (m : ℕ) → (m ≡ 0 → ⊥) → (n : ℕ) → n ≡ unlessEmpty m n
 unfolding unlessEmpty

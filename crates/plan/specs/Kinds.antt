@@ -1,28 +1,40 @@
--- The parts of a direction's order, by their kinds, and bounds on what an instance takes.
+-- ISAP's parts by their kinds: 0 to 3 are encryption's, 4 to 10 the MAC's; an opening's order starts with the MAC.
 -- Assumes nothing.
 use mathlib.Core.Path.{_≡_, refl, sym, ap, _∙_, subst}
 use mathlib.Core.Bool.{Bool, true, false}
-use mathlib.Core.List.{List, [], _∷_}
-use Prim.Native.Nat.{ℕ, zero, suc, _+_, _≤_, _<_}
+use mathlib.Core.List.{List, [], _∷_, _++_}
+use Prim.Native.Nat.{ℕ, zero, suc, _+_, _/_, _%_, _≤_, _<_}
 use native.Mathlib.Nat.{not-suc-le-zero}
 use native.Mathlib.Omega.{arith}
 use lib.Dec.{eqb, ltb, leb}
-use borrow.Author.Tests.{eqb-true, leb-true, eq-eqb, ne-eqb}
+use borrow.Author.Tests.{leb-true}
 use lib.ListN.{length}
 use Rattle.bits.specs.Pick.{pick}
 use Rattle.bits.specs.Every.{upto-at, passes, passes-at}
+use Rattle.stopping.specs.Parts.{Shape}
 use Rattle.stopping.specs.Places.{shapeAt}
-use Rattle.mode.specs.Params.{Params}
-use Rattle.mode.specs.Paper.{blocks}
-use Rattle.mode.specs.Parts.{unlessEmpty}
-use Rattle.mode.specs.Instances.{isapA128a, isapA128, isapK128a, isapK128, paramsOf, known, by-instance}
-use Rattle.mode.specs.Counts.{rekeyRounds, verifyRounds, encryptRounds, encShapes, macShapes, frontShapes, backShapes, allShapes}
+use Rattle.scheme.specs.Machine.{unlessEmpty}
 use Rattle.scheme.specs.Scheme as schemes
 use Rattle.scheme.specs.Scheme.{partsOf}
-use Rattle.mode.specs.Isap.{isapScheme, schemeOf}
-use Rattle.plan.specs.declared.Numbers.{Numbers}
-use Rattle.plan.specs.declared.Planned.{Planned}
-use Rattle.plan.specs.Planned.{OfInstance, planOf, kindOf, shapeOf, encryptionCalls, macCalls}
+use Rattle.mode.specs.Params.{Params}
+use Rattle.mode.specs.Paper.{blocks}
+use Rattle.mode.specs.Instances.{isapA128a, isapA128, isapK128a, isapK128, paramsOf, by-instance}
+use Rattle.mode.specs.Counts.{encShapes, macShapes, frontShapes, backShapes, allShapes}
+use Rattle.mode.specs.Isap.{isapScheme}
+use Rattle.instances.specs.Schemes.{schemeOf}
+
+unfoldable pub kindOf : Bool → ℕ → ℕ
+kindOf sealing part = pick sealing part ((part + 4) % 11)
+
+unfoldable pub shapeOf : Params → (a m kind : ℕ) → Shape
+shapeOf p a m kind = shapeAt (encShapes p a m ++ macShapes p a m) kind
+
+-- the calls of each kind, as the code finds them (`Kinds` shows them to be the shapes'; a reader may skip these)
+unfoldable pub encryptionCalls : Params → (m kind : ℕ) → ℕ
+encryptionCalls p m kind = unlessEmpty m (pick (eqb kind 1) 127 (pick (eqb kind 3) (blocks p m) 1))
+
+unfoldable pub macCalls : Params → (a m kind : ℕ) → ℕ
+macCalls p a m kind = pick (eqb kind 5) (a / p .b + 1) (pick (eqb kind 6) (m / p .b + 1) (pick (eqb kind 8) 127 1))
 
 module _ (p : Params) (a m : ℕ) where
   -- the calls of each kind
@@ -73,52 +85,6 @@ unfolding schemeOf isapScheme schemes.allShapes allShapes
 shape-of-part i s a m part kind h k =
     ap (shapeOf (paramsOf i) a m) k ∙ sym (parts-of (paramsOf i) a m s part (omega (arith, h, eleven-parts i s)))
 
--- ---- bounds, over the four instances
-
--- the largest verification and the largest encryption within document 01's limits
-pub verify-most : (i a m : ℕ) → a ≤ 256 → m ≤ 4096 → verifyRounds (paramsOf i) a m ≤ 8124
-unfolding verifyRounds rekeyRounds isapA128a isapA128 isapK128a isapK128
-verify-most i a m ha hm =
-    by-instance (λ p. verifyRounds p a m ≤ 8124) (omega arith) (omega arith) (omega arith) (omega arith) i
-
-pub unless-most : (m k n : ℕ) → k ≤ n → unlessEmpty m k ≤ n
-unfolding unlessEmpty
-unless-most zero k n h = omega arith
-unless-most (suc m) k n h = h
-
-pub encrypt-most : (i m : ℕ) → m ≤ 4096 → encryptRounds (paramsOf i) m ≤ 7692
-unfolding encryptRounds rekeyRounds blocks isapA128a isapA128 isapK128a isapK128
-encrypt-most i m hm =
-    by-instance (λ p. encryptRounds p m ≤ 7692)
-    (unless-most m _ 7692 (omega arith)) (unless-most m _ 7692 (omega arith)) (unless-most m _ 7692 (omega arith)) (unless-most m _ 7692 (omega arith)) i
-
--- what a plan answers, whatever it is asked
-pub record Within (r : Planned) : Type 0 where
-  pub number : r .number ≤ 5
-  pub verify : r .verify ≤ 8124
-  pub total : r .total ≤ 15816
-
-pub plan-within : (i a m : ℕ) → Within (planOf i a m)
-unfolding planOf
-plan-within i a m = go (known i) (leb a 256) (leb m 4096) refl refl
-  where
-    go : (b c d : Bool) → leb a 256 ≡ c → leb m 4096 ≡ d
-        → Within
-        (pick b
-        (pick c
-        (pick d
-        (record { number = 0; verify = verifyRounds (paramsOf i) a m; total = encryptRounds (paramsOf i) m + verifyRounds (paramsOf i) a m })
-        (record { number = 5; verify = 0; total = 0 }))
-        (record { number = 4; verify = 0; total = 0 }))
-        (record { number = 1; verify = 0; total = 0 }))
-    go true true true e f =
-        let v = verify-most i a m (leb-true a 256 e) (leb-true m 4096 f) in
-        let w = encrypt-most i m (leb-true m 4096 f) in
-        record { number = omega arith; verify = v; total = omega arith }
-    go true true false e f = record { number = omega arith; verify = omega arith; total = omega arith }
-    go true false d e f = record { number = omega arith; verify = omega arith; total = omega arith }
-    go false c d e f = record { number = omega arith; verify = omega arith; total = omega arith }
-
 fits-most : (i : ℕ) → passes (leb (paramsOf i .sH) (paramsOf i .most) ∷ leb (paramsOf i .sB) (paramsOf i .most) ∷ leb (paramsOf i .sE) (paramsOf i .most) ∷ leb (paramsOf i .sK) (paramsOf i .most) ∷ []) ≡ true
 unfolding isapA128a isapA128 isapK128a isapK128 passes
 fits-most = by-instance (λ p. passes (leb (p .sH) (p .most) ∷ leb (p .sB) (p .most) ∷ leb (p .sE) (p .most) ∷ leb (p .sK) (p .most) ∷ []) ≡ true) refl refl refl refl
@@ -145,62 +111,3 @@ pub text-calls : (p : Params) (a m call : ℕ) → call < shapeOf p a m 3 .count
 unfolding shapeOf shapeAt encShapes macShapes unlessEmpty
 text-calls p a zero call h = absurd (not-suc-le-zero h)
 text-calls p a (suc m) call h = h
-
-pub rekey-most : (i : ℕ) → rekeyRounds (paramsOf i) ≤ 1548
-unfolding rekeyRounds isapA128a isapA128 isapK128a isapK128
-rekey-most i = by-instance (λ p. rekeyRounds p ≤ 1548) (omega arith) (omega arith) (omega arith) (omega arith) i
-
-pub blocks-most : (i m : ℕ) → m ≤ 4096 → blocks (paramsOf i) m ≤ 512
-unfolding blocks isapA128a isapA128 isapK128a isapK128
-blocks-most i m hm = by-instance (λ p. blocks p m ≤ 512) (omega arith) (omega arith) (omega arith) (omega arith) i
-
--- ---- an instance's numbers, by one test of all of them
-
-same : Params → Numbers → List Bool
-same p q =
-    eqb (q .n) (p .n) ∷ eqb (q .b) (p .b) ∷ eqb (q .sh) (p .sH) ∷ eqb (q .sb) (p .sB) ∷ eqb (q .se) (p .sE) ∷ eqb (q .sk) (p .sK) ∷ eqb (q .most) (p .most)
-    ∷ leb (q .n) 50 ∷ leb 8 (q .b) ∷ leb (q .b) 18 ∷ leb (q .sh) (q .most) ∷ leb (q .sb) 12 ∷ leb (q .se) 12 ∷ leb (q .sk) 12 ∷ leb 12 (q .most) ∷ leb (q .most) 20 ∷ []
-
-of-instance : (i : ℕ) (p : Params) (q : Numbers) → paramsOf i ≡ p → passes (same p q) ≡ true → OfInstance i q
-unfolding same
-of-instance i p q e s =
-    let t = passes-at (same p q) s in
-    record {
-      n = eqb-true (q .n) (p .n) (t 0) ∙ ap Params.n (sym e);
-      b = eqb-true (q .b) (p .b) (t 1) ∙ ap Params.b (sym e);
-      sh = eqb-true (q .sh) (p .sH) (t 2) ∙ ap Params.sH (sym e);
-      sb = eqb-true (q .sb) (p .sB) (t 3) ∙ ap Params.sB (sym e);
-      se = eqb-true (q .se) (p .sE) (t 4) ∙ ap Params.sE (sym e);
-      sk = eqb-true (q .sk) (p .sK) (t 5) ∙ ap Params.sK (sym e);
-      most = eqb-true (q .most) (p .most) (t 6) ∙ ap Params.most (sym e);
-      stateFits = leb-true (q .n) 50 (t 7);
-      blockLeast = leb-true 8 (q .b) (t 8);
-      blockMost = leb-true (q .b) 18 (t 9);
-      shMost = leb-true (q .sh) (q .most) (t 10);
-      sbMost = leb-true (q .sb) 12 (t 11);
-      seMost = leb-true (q .se) 12 (t 12);
-      skMost = leb-true (q .sk) 12 (t 13);
-      mostLeast = leb-true 12 (q .most) (t 14);
-      mostMost = leb-true (q .most) 20 (t 15);
-    }
-
--- the four of them
-abbrev pub numbers : (n b sh sb se sk most : ℕ) → Numbers
-numbers n b sh sb se sk most = record { n = n; b = b; sh = sh; sb = sb; se = se; sk = sk; most = most }
-
-module _ (i : ℕ) where
-  pub numbers-1 : i ≡ 1 → OfInstance i (numbers 40 8 12 1 6 12 12)
-  unfolding paramsOf isapA128a same passes
-  numbers-1 e = of-instance i isapA128a (numbers 40 8 12 1 6 12 12) (rw (paramsOf, eq-eqb i 1 e)) refl
-
-  pub numbers-2 : (i ≡ 1 → ⊥) → i ≡ 2 → OfInstance i (numbers 40 8 12 12 12 12 12)
-  unfolding paramsOf isapA128 same passes
-  numbers-2 f e = of-instance i isapA128 (numbers 40 8 12 12 12 12 12) (rw (paramsOf, ne-eqb i 1 f, eq-eqb i 2 e)) refl
-
-  pub numbers-3 : (i ≡ 1 → ⊥) → (i ≡ 2 → ⊥) → i ≡ 3 → OfInstance i (numbers 50 18 16 1 8 8 20)
-  unfolding paramsOf isapK128a same passes
-  numbers-3 f g e = of-instance i isapK128a (numbers 50 18 16 1 8 8 20) (rw (paramsOf, ne-eqb i 1 f, ne-eqb i 2 g, eq-eqb i 3 e)) refl
-
-  pub numbers-4 : (i ≡ 1 → ⊥) → (i ≡ 2 → ⊥) → (i ≡ 3 → ⊥) → OfInstance i (numbers 50 18 20 12 12 12 20)
-  unfolding paramsOf isapK128 same passes
-  numbers-4 f g h = of-instance i isapK128 (numbers 50 18 20 12 12 12 20) (rw (paramsOf, ne-eqb i 1 f, ne-eqb i 2 g, ne-eqb i 3 h)) refl

@@ -1,2 +1,4 @@
 pub mod Planned
+pub mod PlanLaws
+pub mod Numbers
 pub mod Kinds

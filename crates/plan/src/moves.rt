@@ -4,16 +4,17 @@ ghost use Prim.Native.Nat.{ℕ, _+_, _≤_, _<_};
 ghost use Rattle.stopping.specs.Parts.{roundsIn};
 ghost use Rattle.stopping.specs.Places.{place, placeOf, startOf};
 ghost use Rattle.scheme.specs.Scheme.{allShapes, partsOf};
-ghost use Rattle.mode.specs.Isap.{schemeOf};
+ghost use Rattle.instances.specs.Schemes.{schemeOf};
+ghost use Rattle.instances.specs.Limits.{mostAssoc, mostText};
 ghost use Rattle.plan.specs.Planned.{placed, Standing};
 use crate::places::Place;
-use crate::places::count_at;
-use crate::places::parts_of;
-use crate::places::rounds_at;
+use crate::shapes::count_at;
+use crate::shapes::parts_of;
+use crate::shapes::rounds_at;
 
 // The first place of the parts from `part` on: parts without calls are passed over.
 pub fn first_from(instance: u32, sealing: bool, a: u32, m: u32, part: u32) -> Place
-    requires { ⌜ (a ≤ 256) × (m ≤ 4096) × (part ≤ partsOf (schemeOf instance) sealing) ⌝ }
+    requires { ⌜ (a ≤ mostAssoc) × (m ≤ mostText) × (part ≤ partsOf (schemeOf instance) sealing) ⌝ }
     ensures { λ r. ⌜ r ≡ placed (startOf (allShapes (schemeOf instance) sealing a m) part) ⌝ }
 {
     let parts = parts_of(instance, sealing);

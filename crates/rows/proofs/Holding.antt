@@ -15,8 +15,9 @@ use Rattle.bits.specs.Part.{length-part, part-front}
 use Rattle.bits.specs.Put.{putAt}
 use Rattle.bits.specs.Run.{rounds, run, Keeps, length-rounds, run-front}
 use Rattle.bits.specs.Xors.{xors, length-xors, xors-front, xors-none}
-use Rattle.mode.specs.Strings.{xorInto, xorAt, block, bitAt, xorBit}
-use Rattle.mode.specs.StringLaws.{xorInto-front}
+use Rattle.bits.specs.Strings.{xorInto, xorAt, block}
+use Rattle.mode.specs.Strings.{bitAt, xorBit}
+use Rattle.bits.specs.StringLaws.{xorInto-front}
 use Rattle.rows.specs.Fed.{fed, bitIn, blockIn, nothingIn, writtenBy}
 
 -- ---- what enters, on the words' bytes u with t behind them

@@ -4,7 +4,8 @@ use mathlib.Core.List.{List}
 use Prim.Native.Nat.{ℕ, zero, suc, _+_, _*_}
 use Rattle.bits.specs.Put.{putAt}
 use Rattle.bits.specs.Xors.{xors}
-use Rattle.mode.specs.Strings.{xorInto, block, bitAt, xorBit}
+use Rattle.bits.specs.Strings.{xorInto, block}
+use Rattle.mode.specs.Strings.{bitAt, xorBit}
 
 -- k calls from the i-th on: g, what enters with the call's own number, then its rounds f
 unfoldable pub fed : (f : List ℕ → List ℕ) → (g : ℕ → List ℕ → List ℕ) → (i k : ℕ) → List ℕ → List ℕ

@@ -16,16 +16,18 @@ use Rattle.stopping.specs.Stopped.{whole}
 use Rattle.stopping.specs.Parts.{Part, callOf}
 use Rattle.stopping.specs.Places.{partAt, shapeAt}
 use Rattle.stopping.specs.Wholes.{wholes}
-use Rattle.mode.specs.Strings.{xorInto, xorAt, block, padded}
+use Rattle.bits.specs.Strings.{xorInto, xorAt, block}
+use Rattle.mode.specs.Strings.{padded}
 use Rattle.mode.specs.StringLaws.{block-full}
 use Rattle.mode.specs.Params.{Params}
-use Rattle.mode.specs.Parts.{Machine, Input, onState, first, cipherOf, part, written, keyBits, texts, assocs, ciphers, macKeyBits}
+use Rattle.scheme.specs.Machine.{Machine, Input, onState, first, cipherOf, given, machine}
+use Rattle.mode.specs.Parts.{part, written, keyBits, texts, assocs, ciphers, macKeyBits}
 use Rattle.mode.specs.Calls.{turns-run}
 use Rattle.mode.specs.Instances.{paramsOf, lawful-instance}
 use Rattle.mode.specs.Counts.{encShapes, macShapes}
-use Rattle.plan.specs.Planned.{shapeOf}
-use Rattle.plan.specs.Kinds.{unless-most, text-calls}
-use Rattle.sponge.specs.Kinds.{given, machine, partOf}
+use Rattle.instances.specs.Limits.{unless-most}
+use Rattle.plan.specs.Kinds.{text-calls, shapeOf}
+use Rattle.sponge.specs.Kinds.{partOf}
 use Rattle.sponge.specs.Leaves.{turn-of}
 use Rattle.sponge.specs.Offsets.{pad-offset, text-offset}
 use Rattle.rows.specs.Fed.{fed, bitIn, blockIn, nothingIn, writtenBy}

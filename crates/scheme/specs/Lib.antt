@@ -2,3 +2,4 @@ pub mod Machine
 pub mod Blind
 pub mod Scheme
 pub mod Lawful
+pub mod Calls

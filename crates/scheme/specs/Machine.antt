@@ -3,8 +3,9 @@
 use mathlib.Core.Path.{_≡_}
 use mathlib.Core.Bool.{Bool}
 use mathlib.Core.List.{List, _++_}
-use Prim.Native.Nat.{ℕ}
+use Prim.Native.Nat.{ℕ, zero, suc}
 use lib.ListN.{length}
+use Rattle.bits.specs.Pick.{pick}
 use Rattle.bits.specs.Bytes.{Bytes}
 
 -- the algorithm's state, the session bytes, the output, and the tag (in a sealing to be made, in an opening received)
@@ -21,6 +22,36 @@ pub record Input : Type 0 where
   pub nonce : List ℕ
   pub assoc : List ℕ
   pub text : List ℕ
+
+-- the same, by their parts
+abbrev pub machine : (state session out tag : List ℕ) → Machine
+machine state session out tag = record { state = state; session = session; out = out; tag = tag }
+
+abbrev pub given : (sealing : Bool) (key nonce assoc text : List ℕ) → Input
+given sealing key nonce assoc text = record { sealing = sealing; key = key; nonce = nonce; assoc = assoc; text = text }
+
+-- the ciphertext: a sealing's own output, an opening's text
+unfoldable pub cipherOf : Input → List ℕ → List ℕ
+cipherOf x out = pick (x .sealing) out (x .text)
+
+-- ---- what goes with a round
+
+abbrev pub onState : (List ℕ → List ℕ) → Machine → Machine
+onState f m = record { state = f (m .state); session = m .session; out = m .out; tag = m .tag }
+
+-- done with the first call of a part alone
+abbrev pub first : ℕ → (List ℕ → List ℕ) → List ℕ → List ℕ
+first zero f s = f s
+first (suc i) f s = s
+
+-- nothing goes with it
+abbrev pub nothing : ℕ → Machine → Machine
+nothing i m = m
+
+-- so many calls, none if the text is empty
+unfoldable pub unlessEmpty : ℕ → ℕ → ℕ
+unlessEmpty zero k = 0
+unlessEmpty (suc m) k = k
 
 -- ---- what an algorithm gives
 

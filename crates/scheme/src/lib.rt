@@ -1,1 +1,2 @@
-// What a scheme is that seals and opens round by round: definitions and laws in specs/, no code.
+// A scheme: what an algorithm gives that seals and opens round by round, the laws it owes, and what follows from them.
+// The crate is its specs/; it has no function.

@@ -10,7 +10,8 @@ use lib.Bits.{bitXor, xor-zero-r}
 use lib.ListN.{length, getD, take, drop, set, replicate, length-append, length-drop, length-replicate}
 use lib.Seq.{drop-append-le, take-all}
 use Rattle.bits.specs.Xors.{xors, xors-none}
-use Rattle.mode.specs.Strings.{xorInto, xorAt, block, padded}
+use Rattle.bits.specs.Strings.{xorInto, xorAt, block}
+use Rattle.mode.specs.Strings.{padded}
 
 pub xorInto-none : (s : List ℕ) → xorInto [] s ≡ s
 unfolding xorInto

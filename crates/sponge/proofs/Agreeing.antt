@@ -13,8 +13,8 @@ use lib.Seq.{length-take-le, getD-take, ext-getD}
 use borrow.Author.Count.{below-more}
 use borrow.Author.Tests.{eqb-true, eqb-false}
 use Rattle.bits.specs.Xors.{xor-twice}
-use Rattle.mode.specs.Strings.{same}
-use Rattle.mode.specs.StringLaws.{same-refl, same-true}
+use Rattle.bits.specs.Strings.{same}
+use Rattle.bits.specs.StringLaws.{same-refl, same-true}
 
 or-left : (a b : ℕ) → bitOr a b ≡ 0 → a ≡ 0
 or-left a b e = omega (arith, or-add-and a b, and-le-r a b)

@@ -11,8 +11,8 @@ use lib.ListN.{length, getD, take, drop, set, replicate, length-append, length-d
 use lib.Seq.{take-nil, drop-drop, length-take-le, paste, paste-suc, take-all}
 use Rattle.bits.specs.Put.{put, putAt}
 use Rattle.bits.specs.Xors.{xors, length-xors, xors-none}
-use Rattle.mode.specs.Strings.{block}
-use Rattle.mode.specs.Parts.{first}
+use Rattle.bits.specs.Strings.{block}
+use Rattle.scheme.specs.Machine.{first}
 
 -- ---- a string put in place
 

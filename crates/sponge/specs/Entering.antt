@@ -12,12 +12,14 @@ use Rattle.bits.specs.Pick.{pick}
 use Rattle.bits.specs.Every.{upto-at}
 use Rattle.bits.specs.Put.{put, putAt}
 use Rattle.stopping.specs.Places.{partAt}
-use Rattle.mode.specs.Strings.{xorInto, xorAt, block, padded, bitAt, xorBit}
+use Rattle.bits.specs.Strings.{xorInto, xorAt, block}
+use Rattle.mode.specs.Strings.{padded, bitAt, xorBit}
 use Rattle.mode.specs.Params.{Params, iv}
-use Rattle.mode.specs.Parts.{Input, first, cipherOf, part, keyStart, keyBits, keyEnd, texts, macStart, assocs, ciphers, setAside, macKeyStart, macKeyBits, macKeyEnd, takeBack, macEnd}
+use Rattle.scheme.specs.Machine.{Input, first, cipherOf, machine}
+use Rattle.mode.specs.Parts.{part, keyStart, keyBits, keyEnd, texts, macStart, assocs, ciphers, setAside, macKeyStart, macKeyBits, macKeyEnd, takeBack, macEnd}
 use Rattle.mode.specs.Instances.{paramsOf}
-use Rattle.plan.specs.Kinds.{unless-most}
-use Rattle.sponge.specs.Kinds.{machine, partOf, CanEnter, Entered}
+use Rattle.instances.specs.Limits.{unless-most}
+use Rattle.sponge.specs.Kinds.{partOf, CanEnter, Entered}
 
 -- encryption's parts, 0 to 3
 unfoldable pub encryptionState : Params → (key nonce : List ℕ) → (kind call : ℕ) → (state : List ℕ) → List ℕ

@@ -8,26 +8,18 @@ use lib.ListN.{length}
 use Rattle.stopping.specs.Parts.{Part}
 use Rattle.stopping.specs.Places.{partAt}
 use Rattle.mode.specs.Params.{Params}
-use Rattle.mode.specs.Parts.{Machine, Input, encParts, macParts}
+use Rattle.scheme.specs.Machine.{Machine, Input, machine}
+use Rattle.mode.specs.Parts.{encParts, macParts}
 use Rattle.mode.specs.Instances.{paramsOf}
-
--- what a job is given and works on
-abbrev pub given : (sealing : Bool) (key nonce assoc text : List ℕ) → Input
-given sealing key nonce assoc text = record { sealing = sealing; key = key; nonce = nonce; assoc = assoc; text = text }
-
-abbrev pub machine : (state session out tag : List ℕ) → Machine
-machine state session out tag = record { state = state; session = session; out = out; tag = tag }
 
 -- the part of a kind
 unfoldable pub partOf : Params → Input → ℕ → Part Machine
 partOf p x kind = partAt (encParts p x ++ macParts p x) kind
 
--- a call that is there, with buffers within the limits, the output as long as the text
+-- a call that is there, and an output as long as the text
 pub record CanEnter (instance kind call : ℕ) (x : Input) (out : List ℕ) : Type 0 where
   pub isKind : kind < 11
   pub isCall : call < partOf (paramsOf instance) x kind .shape .count
-  pub assocLimit : length (x .assoc) ≤ 256
-  pub textLimit : length (x .text) ≤ 4096
   pub outLong : length out ≡ length (x .text)
 
 -- the state and the session bytes with which a call's first round begins; output and tag are as they were

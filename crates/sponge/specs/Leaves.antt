@@ -12,20 +12,20 @@ use Rattle.bits.specs.Run.{front}
 use Rattle.bits.specs.Xors.{xors}
 use Rattle.stopping.specs.Parts.{Shape}
 use Rattle.stopping.specs.Places.{partAt, shapeAt, shape-part}
-use Rattle.mode.specs.Strings.{block}
+use Rattle.bits.specs.Strings.{block}
 use Rattle.mode.specs.Params.{Params}
 use Rattle.mode.specs.Paper.{blocks}
-use Rattle.mode.specs.Parts.{Input, onState, tagOf, part, keyStart, keyBits, keyEnd, written, texts, macStart, assocs, ciphers, macKeyStart, macKeyBits, macKeyEnd, tagged, macEnd, encParts, macParts}
+use Rattle.scheme.specs.Machine.{Input, onState, machine}
+use Rattle.mode.specs.Parts.{tagOf, part, keyStart, keyBits, keyEnd, written, texts, macStart, assocs, ciphers, macKeyStart, macKeyBits, macKeyEnd, tagged, macEnd, encParts, macParts}
 use Rattle.mode.specs.Instances.{paramsOf}
 use Rattle.mode.specs.Counts.{shapes-sealing}
-use Rattle.plan.specs.Planned.{shapeOf}
-use Rattle.sponge.specs.Kinds.{machine, partOf}
+use Rattle.plan.specs.Kinds.{shapeOf}
+use Rattle.sponge.specs.Kinds.{partOf}
 
--- an output as long as the text, within the limit, and a call that is there if it is one of the text's
+-- an output as long as the text, and a call that is there if it is one of the text's
 pub record CanLeave (instance kind call : ℕ) (text out : List ℕ) : Type 0 where
   pub isKind : kind < 11
   pub outLong : length out ≡ length text
-  pub textLimit : length text ≤ 4096
   pub isCall : kind ≡ 3 → call < blocks (paramsOf instance) (length text)
 
 -- what the last round of a call leaves in the output, and as the tag

@@ -1,6 +1,5 @@
 pub mod Kinds
 pub mod Entering
 pub mod Leaves
-pub mod Copying
 pub mod Engines
 pub mod Offsets

@@ -20,11 +20,12 @@ ghost use Rattle.bits.specs.Run.{run};
 ghost use Rattle.bits.specs.Xors.{xors};
 ghost use Rattle.ascon.specs.Permutation.{asconRound};
 ghost use Rattle.keccak.specs.Fips202.{keccakRound};
-ghost use Rattle.mode.specs.Strings.{xorInto, xorAt, block, padded, same};
+ghost use Rattle.bits.specs.Strings.{xorInto, xorAt, block, same};
+ghost use Rattle.mode.specs.Strings.{padded};
 ghost use Rattle.mode.specs.Params.{iv};
-ghost use Rattle.mode.specs.Parts.{first};
+ghost use Rattle.scheme.specs.Machine.{first, given};
 ghost use Rattle.mode.specs.Instances.{paramsOf};
-ghost use Rattle.sponge.specs.Kinds.{given, CanEnter, Entered};
+ghost use Rattle.sponge.specs.Kinds.{CanEnter, Entered};
 ghost use Rattle.sponge.specs.Leaves.{CanLeave};
 ghost use Rattle.sponge.specs.Engines.{onAscon};
 ghost use Rattle.sponge.specs.Entering.{encryptionState, macKeyState, macState, sessionBytes};
@@ -150,11 +151,11 @@ fn domain(instance: u32, state: [u8; 50], call: u32) -> [u8; 50]
 
 // Block `call` of a string, with its padding.
 fn absorb_block(instance: u32, state: [u8; 50], call: u32, src: &[u8]) -> [u8; 50]
-    requires { ⌜ (call < length (now src) / paramsOf instance .b + 1) × (length (now src) ≤ 4096) ⌝ }
+    requires { ⌜ call < length (now src) / paramsOf instance .b + 1 ⌝ }
     ensures { λ r. ⌜ r ≡ xorInto (block (paramsOf instance .b) call (padded (paramsOf instance .b) (now (src .entry)))) state ⌝ }
 {
     let b = block_bytes(instance);
-    absorb_padded(state, src, call as usize, b)
+    absorb_padded(state, src, call, b)
 }
 
 // The ciphertext is the output of a sealing and the text of an opening.
@@ -166,7 +167,7 @@ fn absorb_cipher(
     text: &[u8],
     out: &[u8],
 ) -> [u8; 50]
-    requires { ⌜ (call < length (now text) / paramsOf instance .b + 1) × (length (now text) ≤ 4096) × (length (now out) ≡ length (now text)) ⌝ }
+    requires { ⌜ (call < length (now text) / paramsOf instance .b + 1) × (length (now out) ≡ length (now text)) ⌝ }
     ensures { λ r. ⌜ r ≡ xorInto (block (paramsOf instance .b) call (padded (paramsOf instance .b) (pick sealing (now (out .entry)) (now (text .entry))))) (first call (xorAt (paramsOf instance .n - 1) 1) state) ⌝ }
 {
     let s = domain(instance, state, call);

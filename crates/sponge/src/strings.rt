@@ -5,7 +5,8 @@ ghost use lib.ListN.{length, take};
 ghost use Rattle.bits.specs.Number.{value};
 ghost use Rattle.bits.specs.Put.{putAt};
 ghost use Rattle.bits.specs.Xors.{xors};
-ghost use Rattle.mode.specs.Strings.{xorInto, block, padded, bitAt, xorBit};
+ghost use Rattle.bits.specs.Strings.{xorInto, block};
+ghost use Rattle.mode.specs.Strings.{padded, bitAt, xorBit};
 
 // A string in place of the state's bytes from `at` on.
 pub fn put_at(state: [u8; 50], part: &[u8], at: usize) -> [u8; 50]
@@ -36,11 +37,11 @@ pub fn absorb(state: [u8; 50], part: &[u8]) -> [u8; 50]
 }
 
 // Block i of a padded string absorbed: the part of the string that starts at the block's own offset, and the padding's byte behind the last.
-pub fn absorb_padded(state: [u8; 50], src: &[u8], i: usize, b: usize) -> [u8; 50]
-    requires { ⌜ (0 < b) × (b ≤ 18) × (i * b ≤ length (now src)) × (length (now src) ≤ 4096) ⌝ }
+pub fn absorb_padded(state: [u8; 50], src: &[u8], i: u32, b: usize) -> [u8; 50]
+    requires { ⌜ (0 < b) × (b ≤ 18) × (i * b ≤ length (now src)) ⌝ }
     ensures { λ r. ⌜ r ≡ xorInto (block b i (padded b (now (src .entry)))) state ⌝ }
 {
-    let a = i * b;
+    let a = i as usize * b;
     let e = a + b;
     if e <= src.len() {
         return absorb(state, &src[a..e]);

@@ -1,48 +1,68 @@
--- `plan::plan` meets its contract: the refusals in document 01's order, then the formulas.
+-- `plan::plan` meets its contract: the refusals in document 01's order, then the rounds of an opening.
 -- Assumes nothing.
+use mathlib.Core.Path.{_≡_, sym, _∙_}
+use mathlib.Core.Bool.{true, false}
 use Prim.Native.Nat.{_+_}
+use native.Mathlib.Omega.{arith}
 use borrow.Author.Needs.{needs}
-use borrow.Author.Tests.{le-leb, lt-leb}
-use Rattle.mode.specs.Instances.{known}
+use borrow.Author.Tests.{le-leb, lt-leb, not-true, not-false}
+use Rattle.scheme.specs.Scheme.{allCount}
+use Rattle.instances.specs.Schemes.{known}
+use Rattle.instances.specs.Limits.{mostAssoc, mostText, total-most}
 use Rattle.plan.specs.Planned.{planOf}
 use Rattle.plan.proofs.plan.Statement.{statement}
 use Rattle.plan.proofs.plan.Tie as tie
 
 returns : tie.Need-returns
-unfolding planOf known
-returns c = simp (lt-leb 1 _ (c .if1 .taken))
+unfolding planOf
+returns c =
+    let d = c .before .before in
+    let k : known (d .before .args .instance) ≡ false = sym (d .is-known .ensures) ∙ not-true _ (c .before .if1 .taken) in
+    c .refused .ensures ∙ sym (simp k)
 
 returns-2 : tie.Need-returns-2
-unfolding planOf known
-returns-2 c = simp (le-leb 1 _ (c .before .if1 .left), lt-leb _ 4 (c .if2 .taken))
+unfolding planOf
+returns-2 c =
+    let d = c .before .before .before in
+    let k : known (d .before .args .instance) ≡ true = sym (d .is-known .ensures) ∙ not-false _ (c .before .before .if1 .left) in
+    c .refused2 .ensures ∙ sym (simp (k, lt-leb _ mostAssoc (c .before .if2 .taken)))
 
 returns-3 : tie.Need-returns-3
-unfolding planOf known
-returns-3 c = simp (le-leb 1 _ (c .before .before .if1 .left), le-leb _ 4 (c .before .if2 .left), lt-leb _ 256 (c .if3 .taken))
+unfolding planOf
+returns-3 c =
+    let d = c .before .before .before .before in
+    let k : known (d .before .args .instance) ≡ true = sym (d .is-known .ensures) ∙ not-false _ (c .before .before .before .if1 .left) in
+    c .refused3 .ensures ∙ sym (simp (k, le-leb _ mostAssoc (c .before .before .if2 .left), lt-leb _ mostText (c .before .if3 .taken)))
+
+add-total : tie.Need-add-t8
+unfolding allCount
+add-total c =
+    let t = c .before .before in
+    let a = t .before .before .before .before .args in
+    omega (arith, c .back-rounds .ensures, c .before .front-rounds .ensures, total-most (a .instance) false (a .a) (a .m) (t .before .if2 .left) (t .if3 .left))
 
 returns-4 : tie.Need-returns-4
-unfolding planOf known
+unfolding planOf allCount
 returns-4 c =
-    simp (le-leb 1 _ (c .before .before .before .if1 .left), le-leb _ 4 (c .before .before .if2 .left), le-leb _ 256 (c .before .if3 .left), lt-leb _ 4096 (c .if4 .taken))
-
-returns-5 : tie.Need-returns-5
-unfolding planOf known
-returns-5 c =
     let t = c .before .before in
-    let v = c .before .verify-rounds .ensures .0 in
-    let e = c .encrypt-rounds .ensures .0 in
-    simp (le-leb 1 _ (t .before .before .before .if1 .left), le-leb _ 4 (t .before .before .if2 .left), le-leb _ 256 (t .before .if3 .left), le-leb _ 4096 (t .if4 .left))
-    (λ i. record { number = 0; verify = v i; total = e i + v i })
+    let d = t .before .before .before in
+    let k : known (d .before .args .instance) ≡ true = sym (d .is-known .ensures) ∙ not-false _ (t .before .before .if1 .left) in
+    let v = c .before .front-rounds .ensures in
+    let e = c .back-rounds .ensures in
+    simp (k, le-leb _ mostAssoc (t .before .if2 .left), le-leb _ mostText (t .if3 .left)) (λ i. record { number = 0; verify = v i; total = v i + e i })
 
 pub plan-spec : {M : Type 1} → statement M
 plan-spec =
     tie.close
     (tie.spec
+    (λ c κs. search needs)
+    (λ c κs. search needs)
     returns
+    (λ c κs. search needs)
     returns-2
+    (λ c κs. search needs)
     returns-3
-    returns-4
     (λ c κs. search needs)
     (λ c κs. search needs)
-    (λ c. search needs)
-    returns-5)
+    add-total
+    returns-4)

@@ -4,7 +4,8 @@ use mathlib.Core.Path.{sym, ap, _∙_, subst}
 use Prim.Native.Nat.{ℕ, _*_, _≤_}
 use lib.ListN.{length}
 use borrow.Author.Needs.{needs}
-use Rattle.mode.specs.Strings.{xorInto, block, padded}
+use Rattle.bits.specs.Strings.{xorInto, block}
+use Rattle.mode.specs.Strings.{padded}
 use Rattle.mode.specs.Instances.{paramsOf}
 use Rattle.sponge.specs.Offsets.{pad-offset}
 use Rattle.sponge.proofs.absorb_block.Statement.{statement}
@@ -17,8 +18,7 @@ absorb-padded-requires c κs =
     let m = length (a .src .now) in (
       e .1,
       e .2,
-      subst (λ (b : ℕ). a .call * b ≤ m) (sym (e .0)) (pad-offset (a .call) m (paramsOf (a .instance) .b) (c .before .before .pre .0)),
-      c .before .before .pre .1,
+      subst (λ (b : ℕ). a .call * b ≤ m) (sym (e .0)) (pad-offset (a .call) m (paramsOf (a .instance) .b) (c .before .before .pre)),
     )
 
 returns : tie.Need-returns

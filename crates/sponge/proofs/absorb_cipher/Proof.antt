@@ -7,8 +7,9 @@ use native.Mathlib.Omega.{arith}
 use lib.ListN.{length}
 use borrow.Author.Needs.{needs}
 use Rattle.bits.specs.Pick.{pick}
-use Rattle.mode.specs.Strings.{xorInto, xorAt, block, padded}
-use Rattle.mode.specs.Parts.{first}
+use Rattle.bits.specs.Strings.{xorInto, xorAt, block}
+use Rattle.mode.specs.Strings.{padded}
+use Rattle.scheme.specs.Machine.{first}
 use Rattle.mode.specs.Instances.{paramsOf}
 use Rattle.sponge.proofs.absorb_cipher.Statement.{statement}
 use Rattle.sponge.proofs.absorb_cipher.Tie as tie
@@ -17,8 +18,8 @@ absorb-block-requires : tie.Need-absorb-block-requires
 absorb-block-requires c κs =
     let start = c .before .before .before .before in
     let a = start .args in
-    let same : length (a .out .now) ≡ length (a .text .now) = start .pre .2 in
-    (subst (λ (m : ℕ). a .call < m / paramsOf (a .instance) .b + 1) (sym same) (start .pre .0), omega (arith, start .pre .1))
+    let same : length (a .out .now) ≡ length (a .text .now) = start .pre .1 in
+    subst (λ (m : ℕ). a .call < m / paramsOf (a .instance) .b + 1) (sym same) (start .pre .0)
 
 returns : tie.Need-returns
 returns c =

@@ -3,8 +3,8 @@
 use mathlib.Core.Path.{sym, ap, _∙_}
 use Prim.Native.Nat.{ℕ, _-_}
 use borrow.Author.Needs.{needs}
-use Rattle.mode.specs.Strings.{xorAt}
-use Rattle.mode.specs.Parts.{first}
+use Rattle.bits.specs.Strings.{xorAt}
+use Rattle.scheme.specs.Machine.{first}
 use Rattle.mode.specs.Instances.{paramsOf}
 use Rattle.sponge.proofs.Placing.{first-later}
 use Rattle.sponge.proofs.domain.Statement.{statement}

@@ -1,7 +1,7 @@
 -- `sponge::enter` meets its contract: what is found is what the part says (`entered-encryption`, `entered-mac`).
 -- Assumes nothing.
 use borrow.Author.Needs.{needs}
-use Rattle.sponge.specs.Kinds.{given}
+use Rattle.scheme.specs.Machine.{given}
 use Rattle.sponge.specs.Entering.{entered-encryption, entered-mac, nonce-bits}
 use Rattle.sponge.proofs.enter.Statement.{statement}
 use Rattle.sponge.proofs.enter.Tie as tie

@@ -3,7 +3,7 @@
 use native.Mathlib.Omega.{arith}
 use borrow.Author.Tests.{eq-eqb, ne-eqb}
 use borrow.Author.Needs.{needs}
-use Rattle.mode.specs.Parts.{cipherOf}
+use Rattle.scheme.specs.Machine.{cipherOf}
 use Rattle.sponge.specs.Entering.{macState, assoc-blocks, cipher-blocks, session-bits}
 use Rattle.sponge.proofs.enter_mac.Statement.{statement}
 use Rattle.sponge.proofs.enter_mac.Tie as tie
@@ -13,7 +13,7 @@ unfolding macState
 returns c = rw (macState, eq-eqb _ _ (c .before .if1 .taken)) (c .start .ensures)
 
 absorb-block-requires : tie.Need-absorb-block-requires
-absorb-block-requires c κs = let can = c .before .before .before .before .before .pre in (assoc-blocks can (c .if2 .taken), omega (arith, can .assocLimit))
+absorb-block-requires c κs = assoc-blocks (c .before .before .before .before .before .pre) (c .if2 .taken)
 
 returns-2 : tie.Need-returns-2
 unfolding macState
@@ -22,7 +22,7 @@ returns-2 c = rw (macState, ne-eqb _ _ (c .before .before .if1 .left), eq-eqb _ 
 absorb-cipher-requires : tie.Need-absorb-cipher-requires
 absorb-cipher-requires c κs =
     let can = c .before .before .before .before .before .before .pre in
-    (cipher-blocks can (c .if3 .taken), can .textLimit, can .outLong)
+    (cipher-blocks can (c .if3 .taken), can .outLong)
 
 returns-3 : tie.Need-returns-3
 unfolding macState cipherOf

@@ -9,10 +9,10 @@ use borrow.Author.Tests.{eq-eqb, ne-eqb}
 use borrow.Author.Needs.{needs}
 use Rattle.bits.specs.Put.{putAt}
 use Rattle.bits.specs.Xors.{xors}
-use Rattle.mode.specs.Strings.{block}
+use Rattle.bits.specs.Strings.{block}
 use Rattle.mode.specs.Instances.{paramsOf, lawful-instance}
 use Rattle.sponge.specs.Leaves.{CanLeave}
-use Rattle.sponge.specs.Offsets.{text-offset}
+use Rattle.sponge.specs.Offsets.{text-offset, end-fits}
 use Rattle.sponge.proofs.Placing.{wrote}
 use Rattle.sponge.proofs.leave_out.Statement.{statement}
 use Rattle.sponge.proofs.leave_out.Tie as tie
@@ -27,10 +27,10 @@ returns : tie.Need-returns
 returns c = rw (ne-eqb _ _ (c .if1 .taken))
 
 mul-a : tie.Need-mul-a
-mul-a c = let can = c .before .before .before .before .pre in omega (arith, starts can (c .before .if1 .left) (c .block-bytes .ensures .0), can .textLimit)
+mul-a c = omega (arith, end-fits (c .before .before .before .before .args .call) (c .block-bytes .result) (omega arith) (c .block-bytes .ensures .2))
 
 add-smaller : tie.Need-add-smaller
-add-smaller c = let can = c .before .before .before .before .pre in omega (arith, starts can (c .before .if1 .left) (c .block-bytes .ensures .0), can .textLimit)
+add-smaller c = omega (arith, end-fits (c .before .before .before .before .args .call) (c .block-bytes .result) (omega arith) (c .block-bytes .ensures .2))
 
 sub-write-block : tie.Need-sub-write-block
 sub-write-block c =

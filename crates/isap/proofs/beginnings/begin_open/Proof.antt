@@ -5,9 +5,8 @@ use mathlib.Core.List.{List}
 use Prim.Native.Nat.{ℕ}
 use lib.ListN.{length}
 use borrow.Author.Needs.{needs}
-use Rattle.mode.specs.Isap.{schemeOf}
+use Rattle.instances.specs.Schemes.{schemeOf, key-bytes}
 use Rattle.isap.specs.Beginnings.{limitsRefusal, tagRefusal, orElse, begunJob, beginOpenOf}
-use Rattle.isap.specs.Isap.{key-bytes}
 use Rattle.isap.specs.Begun.{limits-none, tag-none, or-none}
 use Rattle.isap.proofs.Beginning.{refused-or, begun-or}
 use Rattle.isap.proofs.beginnings.begin_open.Statement.{statement}

@@ -3,9 +3,8 @@
 use mathlib.Core.Path.{sym, _∙_}
 use lib.ListN.{length, replicate}
 use borrow.Author.Needs.{needs}
-use Rattle.mode.specs.Isap.{schemeOf}
+use Rattle.instances.specs.Schemes.{schemeOf, key-bytes}
 use Rattle.isap.specs.Beginnings.{limitsRefusal, begunJob, beginSealOf}
-use Rattle.isap.specs.Isap.{key-bytes}
 use Rattle.isap.specs.Begun.{limits-none}
 use Rattle.isap.proofs.Beginning.{refused-or, begun-or}
 use Rattle.isap.proofs.beginnings.begin_seal.Statement.{statement}

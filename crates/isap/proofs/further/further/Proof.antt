@@ -4,7 +4,7 @@ use Prim.Native.Nat.{_<_}
 use native.Mathlib.Nat.{mul-pos}
 use native.Mathlib.Omega.{arith}
 use borrow.Author.Needs.{needs}
-use Rattle.mode.specs.Isap.{schemeOf, lawful-scheme}
+use Rattle.instances.specs.Schemes.{schemeOf, lawful-scheme}
 use Rattle.isap.specs.Sofar.{fresh-at, fresh-ready}
 use Rattle.isap.specs.Rows.{roundsAt}
 use Rattle.isap.proofs.further.further.Statement.{statement}

@@ -8,7 +8,7 @@ use lib.ListN.{length}
 use borrow.Author.Needs.{needs}
 use borrow.Author.Tests.{eq-eqb, ne-eqb, not-true, not-false}
 use Rattle.bits.specs.Every.{passes}
-use Rattle.mode.specs.Isap.{schemeOf}
+use Rattle.instances.specs.Schemes.{schemeOf}
 use Rattle.isap.specs.declared.Job.{Job}
 use Rattle.isap.specs.Slices.{standsOf, lentOf, refusalOf}
 use Rattle.isap.proofs.slices.refusal.Statement.{statement}

@@ -5,7 +5,7 @@ use mathlib.Core.Logic.{_⊎_, inl, inr, ⊎-elim}
 use Prim.Native.Nat.{ℕ, _-_}
 use native.Mathlib.Omega.{arith}
 use borrow.Author.Needs.{needs}
-use Rattle.mode.specs.Isap.{schemeOf, lawful-scheme}
+use Rattle.instances.specs.Schemes.{schemeOf, lawful-scheme}
 use Rattle.isap.specs.Records.{frontOf, backOf}
 use Rattle.isap.specs.Sofar.{Sofar, sofar-start, sofar-fresh, sofar-more}
 use Rattle.isap.specs.Rows.{rounds-on}
@@ -57,7 +57,7 @@ further-requires c κs =
     let a = c .before .before .before .before .before .before .before .before .before .before .before .before .before .before .args in (
       sofar-fresh schemeOf lawful-scheme (a .job) (a .assoc .now) (a .text .now) (a .out .now) (a .budget) (l .loop .left) (l .loop .current) (l .loop .out) (l .loop .inv) (i .if2 .left),
       timed-now (a .job) (a .assoc .now) (a .text .now) (a .out .now) (a .budget) (l .loop .left) (l .loop .current) (l .loop .out) _ _ (l .loop .inv)
-          (unfold frontOf backOf in record { frontIs = f .front-rounds .ensures; backIs = b .back-rounds .ensures (a .job .assoc) }),
+          (unfold frontOf backOf in record { frontIs = f .front-rounds .ensures; backIs = b .back-rounds .ensures }),
       i .before .before .loop-test .taken,
     )
 

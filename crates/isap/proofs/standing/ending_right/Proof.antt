@@ -1,7 +1,6 @@
 -- `isap::standing::ending_right` meets its contract.
 -- Assumes nothing.
 use borrow.Author.Tests.{eq-eqb, ne-eqb}
-use borrow.Author.Needs.{needs}
 use Rattle.isap.proofs.standing.ending_right.Statement.{statement}
 use Rattle.isap.proofs.standing.ending_right.Tie as tie
 
@@ -18,4 +17,4 @@ returns-4 : tie.Need-returns-4
 returns-4 c = rw (ne-eqb _ _ (c .before .if1 .left), ne-eqb _ _ (c .if3 .left))
 
 pub ending-right-spec : {M : Type 1} → statement M
-ending-right-spec = tie.close (tie.spec returns returns-2 (λ c. search needs) returns-3 returns-4)
+ending-right-spec = tie.close (tie.spec returns returns-2 returns-3 returns-4)

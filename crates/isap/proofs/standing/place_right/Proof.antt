@@ -4,7 +4,7 @@ use mathlib.Core.Path.{ap, _∙_}
 use borrow.Author.Needs.{needs}
 use Rattle.stopping.specs.Places.{placeOf}
 use Rattle.scheme.specs.Scheme.{allShapes}
-use Rattle.mode.specs.Isap.{schemeOf}
+use Rattle.instances.specs.Schemes.{schemeOf}
 use Rattle.plan.specs.Planned.{placed}
 use Rattle.isap.specs.Records.{shapesOf}
 use Rattle.isap.specs.Slices.{samePlace, placeRight}

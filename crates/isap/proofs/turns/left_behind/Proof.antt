@@ -1,19 +1,25 @@
 -- `isap::turns::left_behind` meets its contract.
 -- Assumes nothing.
-use mathlib.Core.Path.{_∙_}
 use borrow.Author.Needs.{needs}
 use borrow.Author.Tests.{not-true, not-false}
-use Rattle.isap.specs.Turns.{Leaves, Left}
+use Rattle.instances.specs.Schemes.{schemeOf}
+use Rattle.isap.specs.Turns.{left-not, left-last}
 use Rattle.isap.proofs.turns.left_behind.Statement.{statement}
 use Rattle.isap.proofs.turns.left_behind.Tie as tie
 
 returns : tie.Need-returns
-unfolding Left
-returns c = rw (not-true (c .before .before .before .before .before .args .last) (c .before .if1 .taken))
+returns c =
+    let a = c .before .before .before .before .before .args in
+    rw (not-true (a .last) (c .if1 .taken)) (left-not schemeOf (a .job) (a .assoc .now) (a .text .now) (a .out .now) (a .state))
+
+leave-requires : tie.Need-leave-requires
+leave-requires c κs = let h = c .before .before .before .before .before .before .before .before .pre in (h .at, h .outLong)
 
 returns-2 : tie.Need-returns-2
-unfolding Left Leaves
-returns-2 c = rw (not-false (c .before .before .before .before .before .before .before .before .args .last) (c .before .before .before .before .if1 .left)) (c .before .before .leave .ensures)
+returns-2 c =
+    let l = c .before .before .leave in
+    let a = c .before .before .before .before .before .before .before .before .before .before .before .args in
+    rw (not-false (a .last) (c .before .before .before .before .before .before .if1 .left)) (left-last schemeOf (a .job) (a .assoc .now) (a .text .now) (a .out .now) (a .state) _ (l .result) (l .ensures))
 
 pub left-behind-spec : {M : Type 1} → statement M
-left-behind-spec = tie.close (tie.spec returns (λ c κs. c .before .before .before .before .before .pre) (λ c. search needs) returns-2)
+left-behind-spec = tie.close (tie.spec returns leave-requires (λ c. search needs) returns-2)

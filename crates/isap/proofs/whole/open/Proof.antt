@@ -3,7 +3,7 @@
 use mathlib.Core.Path.{sym, _∙_}
 use native.Mathlib.Omega.{arith}
 use borrow.Author.Needs.{needs}
-use Rattle.mode.specs.Isap.{schemeOf}
+use Rattle.instances.specs.Schemes.{schemeOf}
 use Rattle.isap.specs.Fits.{fits}
 use Rattle.isap.proofs.Wholes.{open-refused, open-done}
 use Rattle.isap.proofs.whole.open.Statement.{statement}

@@ -8,7 +8,7 @@ use native.Mathlib.Omega.{arith}
 use lib.ListN.{length, take, drop, set, getD, length-set, drop-of-length-le}
 use lib.Seq.{take-all}
 use borrow.Author.Needs.{needs}
-use Rattle.sponge.specs.Copying.{copy-more}
+use Rattle.bits.specs.Copying.{copy-more}
 use Rattle.isap.proofs.whole.put_tag.Statement.{statement}
 use Rattle.isap.proofs.whole.put_tag.Tie as tie
 

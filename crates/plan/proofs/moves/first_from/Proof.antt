@@ -10,7 +10,7 @@ use Rattle.stopping.specs.Parts.{Shape}
 use Rattle.stopping.specs.Places.{place, startOf, start-end}
 use Rattle.scheme.specs.Scheme.{allShapes, partsOf}
 use Rattle.scheme.specs.Lawful.{all-some}
-use Rattle.mode.specs.Isap.{schemeOf, lawful-scheme}
+use Rattle.instances.specs.Schemes.{schemeOf, lawful-scheme}
 use Rattle.plan.specs.Planned.{placed}
 use Rattle.plan.proofs.Walk.{starts-here, starts-on}
 use Rattle.plan.proofs.moves.first_from.Statement.{statement}

@@ -7,7 +7,7 @@ use borrow.Author.Needs.{needs}
 use Rattle.stopping.specs.Places.{place}
 use Rattle.scheme.specs.Scheme.{allShapes}
 use Rattle.scheme.specs.Lawful.{all-some}
-use Rattle.mode.specs.Isap.{schemeOf, lawful-scheme}
+use Rattle.instances.specs.Schemes.{schemeOf, lawful-scheme}
 use Rattle.plan.specs.Planned.{placed}
 use Rattle.plan.specs.Kinds.{parts-most}
 use Rattle.plan.proofs.Walk.{moved-within, moved-call, moved-part}

@@ -8,7 +8,7 @@ use native.Mathlib.Omega.{arith}
 use lib.ListN.{length}
 use Rattle.scheme.specs.Scheme.{allShapes, partsOf}
 use Rattle.scheme.specs.Lawful.{LawfulScheme}
-use Rattle.mode.specs.Isap.{schemeOf, lawful-scheme}
+use Rattle.instances.specs.Schemes.{schemeOf, lawful-scheme}
 use Rattle.plan.specs.Planned.{placed}
 use Rattle.plan.proofs.Walk.{Left, left-all, left-none, found, passed}
 use Rattle.plan.proofs.places.place_after.Statement.{statement}

@@ -6,7 +6,7 @@ use native.Mathlib.Omega.{arith}
 use denote.Ref.{now}
 use borrow.Author.Needs.{needs}
 use Rattle.plan.specs.declared.Planned.{Planned}
-use Rattle.plan.specs.Kinds.{plan-within}
+use Rattle.plan.specs.PlanLaws.{plan-within}
 use Rattle.planning.specs.Lines.{rest, line}
 use Rattle.planning.specs.PutLaws.{put-then, put-as}
 use Rattle.planning.proofs.lines.put_plan.Statement.{statement}

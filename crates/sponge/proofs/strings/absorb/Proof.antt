@@ -8,7 +8,7 @@ use native.Mathlib.Omega.{arith}
 use lib.ListN.{length, take, length-set}
 use lib.Seq.{take-length}
 use borrow.Author.Needs.{needs}
-use Rattle.mode.specs.Strings.{xorInto}
+use Rattle.bits.specs.Strings.{xorInto}
 use Rattle.sponge.proofs.Absorbing.{xorInto-none, xorInto-more}
 use Rattle.sponge.proofs.strings.absorb.Statement.{statement}
 use Rattle.sponge.proofs.strings.absorb.Tie as tie

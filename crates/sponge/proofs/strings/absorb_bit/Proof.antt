@@ -5,7 +5,8 @@ use Prim.Native.Nat.{ℕ, _*_}
 use native.Mathlib.Omega.{arith}
 use borrow.Author.Needs.{needs}
 use Rattle.bits.specs.Number.{value-lt}
-use Rattle.mode.specs.Strings.{xorAt, bitAt, xorBit}
+use Rattle.bits.specs.Strings.{xorAt}
+use Rattle.mode.specs.Strings.{bitAt, xorBit}
 use Rattle.sponge.proofs.strings.absorb_bit.Statement.{statement}
 use Rattle.sponge.proofs.strings.absorb_bit.Tie as tie
 

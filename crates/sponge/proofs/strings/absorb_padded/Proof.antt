@@ -7,11 +7,18 @@ use native.Mathlib.Omega.{arith}
 use lib.ListN.{length, take, drop, length-drop}
 use lib.Seq.{take-all}
 use borrow.Author.Needs.{needs}
-use Rattle.mode.specs.Strings.{xorInto, xorAt}
+use Rattle.bits.specs.Strings.{xorInto, xorAt}
 use Rattle.mode.specs.StringLaws.{block-full}
+use Rattle.sponge.specs.Offsets.{end-fits}
 use Rattle.sponge.proofs.Absorbing.{absorb-last}
 use Rattle.sponge.proofs.strings.absorb_padded.Statement.{statement}
 use Rattle.sponge.proofs.strings.absorb_padded.Tie as tie
+
+mul-a : tie.Need-mul-a
+mul-a c = omega (arith, end-fits (c .before .args .i) (c .before .args .b) (omega arith) (c .before .pre .1))
+
+add-e : tie.Need-add-e
+add-e c = omega (arith, end-fits (c .before .args .i) (c .before .args .b) (omega arith) (c .before .pre .1))
 
 returns : tie.Need-returns
 returns c =
@@ -37,8 +44,8 @@ pub absorb-padded-spec : {M : Type 1} → statement M
 absorb-padded-spec =
     tie.close
     (tie.spec
-    (λ c. search needs)
-    (λ c. search needs)
+    mul-a
+    add-e
     (λ c. search needs)
     (λ c. search needs)
     (λ c. search needs)

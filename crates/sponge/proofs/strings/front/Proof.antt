@@ -7,7 +7,7 @@ use native.Mathlib.Numerals.{add-one}
 use native.Mathlib.Omega.{arith}
 use lib.ListN.{length, take, drop, set, getD, replicate, length-set}
 use borrow.Author.Needs.{needs}
-use Rattle.sponge.specs.Copying.{copy-more}
+use Rattle.bits.specs.Copying.{copy-more}
 use Rattle.sponge.proofs.strings.front.Statement.{statement}
 use Rattle.sponge.proofs.strings.front.Tie as tie
 
