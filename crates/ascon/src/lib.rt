@@ -206,13 +206,13 @@ pub fn with_first(w: Words, v: u8) -> Words
     }
 }
 
-// The state with the block with which a part of a slice begins xored into its first bytes.
-pub fn absorbed(w: Words, part: &[u8]) -> Words
-    requires { ⌜ 8 ≤ length (now part) ⌝ }
-    ensures { λ r. ⌜ bytesOf r ≡ xors (bytesOf w) (take 8 (now (part .entry))) ++ drop 8 (bytesOf w) ⌝ }
+// The state with a block xored into its first bytes.
+pub fn absorbed(w: Words, block: &[u8]) -> Words
+    requires { ⌜ length (now block) ≡ 8 ⌝ }
+    ensures { λ r. ⌜ bytesOf r ≡ xors (bytesOf w) (now (block .entry)) ++ drop 8 (bytesOf w) ⌝ }
 {
     Words {
-        x0: w.x0 ^ load(part, 0),
+        x0: w.x0 ^ load(block, 0),
         x1: w.x1,
         x2: w.x2,
         x3: w.x3,

@@ -86,14 +86,14 @@ pub fn with_first(a: [[u16; 5]; 5], v: u8) -> [[u16; 5]; 5]
     [q, a[1], a[2], a[3], a[4]]
 }
 
-// The state with the block with which a part of a slice begins xored into its first bytes: nine lanes.
-pub fn absorbed(a: [[u16; 5]; 5], part: &[u8]) -> [[u16; 5]; 5]
-    requires { ⌜ 18 ≤ length (now part) ⌝ }
-    ensures { λ r. ⌜ bytesOf r ≡ xors (bytesOf a) (take 18 (now (part .entry))) ++ drop 18 (bytesOf a) ⌝ }
+// The state with a block xored into its first bytes: nine lanes.
+pub fn absorbed(a: [[u16; 5]; 5], block: &[u8]) -> [[u16; 5]; 5]
+    requires { ⌜ length (now block) ≡ 18 ⌝ }
+    ensures { λ r. ⌜ bytesOf r ≡ xors (bytesOf a) (now (block .entry)) ++ drop 18 (bytesOf a) ⌝ }
 {
     [
-        bytes::five_xored(a[0], part, 0),
-        bytes::four_xored(a[1], part, 10),
+        bytes::five_xored(a[0], block, 0),
+        bytes::four_xored(a[1], block, 10),
         a[2],
         a[3],
         a[4],
@@ -106,7 +106,7 @@ pub fn write_xored(out: &mut [u8], at: usize, text: &[u8], a: [[u16; 5]; 5])
     ensures { λ _. ⌜ now (out .exit)
         ≡ take at (now (out .entry)) ++ (xors (bytesOf a) (take 18 (drop at (now (text .entry)))) ++ drop (at + 18) (now (out .entry))) ⌝ }
 {
-    let b = absorbed(a, &text[at..]);
+    let b = absorbed(a, &text[at..at + 18]);
     bytes::put_plane(out, at, b[0]);
     bytes::put_four(out, at + 10, b[1]);
 }

@@ -11,7 +11,7 @@ use lib.Bits.{bitXor}
 use lib.ListN.{length, take, drop, length-append, length-drop, take-append-drop}
 use lib.Seq.{take-at, drop-at, length-take-le}
 use Rattle.bits.specs.Number.{value}
-use Rattle.bits.specs.Part.{length-part, part-front}
+use Rattle.bits.specs.Part.{length-part}
 use Rattle.bits.specs.Put.{putAt}
 use Rattle.bits.specs.Run.{rounds, run, Keeps, length-rounds, run-front}
 use Rattle.bits.specs.Xors.{xors, length-xors, xors-front, xors-none}
@@ -77,7 +77,7 @@ module _ {n : ℕ} {r : ℕ → List ℕ → List ℕ} (keeps : Keeps n r) (from
   pub holds-end : (k calls : ℕ) (u s : List ℕ) → Holds k u → s ≡ u ++ drop n state → k ≡ calls → s ≡ fed f g first calls state
   holds-end k calls u s h e all = e ∙ h .is ∙ ap (λ (i : ℕ). fed f g first i state) all
 
--- one call more, with a bit of y or the block with which a part of t begins
+-- one call more, with a bit of y or a block of t
 module _ {n : ℕ} {r : ℕ → List ℕ → List ℕ} (keeps : Keeps n r) (from count first : ℕ) (state : List ℕ) (some : 0 < n) where
   pub bit-more : (y : List ℕ) (k bit : ℕ) (u v w : List ℕ) → Holds keeps from count (bitIn y) first state k u → bit ≡ value (bitAt y (first + k))
       → v ≡ xors u (bit * 128 ∷ []) ++ drop 1 u → w ≡ rounds r from count v → Holds keeps from count (bitIn y) first state (k + 1) w
@@ -89,12 +89,13 @@ module _ {n : ℕ} {r : ℕ → List ℕ → List ℕ} (keeps : Keeps n r) (from
 
   pub block-more : (b : ℕ) (t : List ℕ) (k : ℕ) (u v w : List ℕ) → Holds keeps from count (blockIn b t) first state k u → b ≤ n
       → (first + k) * b + b ≤ length t
-      → v ≡ xors u (take b (take (length t - (first + k) * b) (drop ((first + k) * b) t))) ++ drop b u
+      → v ≡ xors u (take ((first + k) * b + b - (first + k) * b) (drop ((first + k) * b) t)) ++ drop b u
       → w ≡ rounds r from count v → Holds keeps from count (blockIn b t) first state (k + 1) w
   unfolding block
   block-more b t k u v w h bn l e d =
       let x = take b (drop ((first + k) * b) t) in
-      let q = e ∙ ap (λ (y : List ℕ). xors u y ++ drop b u) (part-front t ((first + k) * b) b l) in
+      let size : (first + k) * b + b - (first + k) * b ≡ b = omega arith in
+      let q = e ∙ ap (λ (i : ℕ). xors u (take i (drop ((first + k) * b) t)) ++ drop b u) size in
       let lx : length x ≡ b = length-part t ((first + k) * b) b l in
       holds-more keeps from count (blockIn b t) first state k u v w h
       (block-enters b x u (drop n state) v lx (omega (arith, h .long)) q)

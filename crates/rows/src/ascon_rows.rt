@@ -39,7 +39,7 @@ pub fn blocks(
     let mut k: u32 = 0;
     while k < calls {
         let at = (first + k) as usize * 8;
-        w = ascon::run(ascon::absorbed(w, &src[at..]), from, count);
+        w = ascon::run(ascon::absorbed(w, &src[at..at + 8]), from, count);
         k += 1;
     }
     let mut s = state;

@@ -40,7 +40,7 @@ pub fn blocks(
     let mut k: u32 = 0;
     while k < calls {
         let at = (first + k) as usize * 18;
-        let b = keccak::run(keccak::absorbed(a, &src[at..]), from, count);
+        let b = keccak::run(keccak::absorbed(a, &src[at..at + 18]), from, count);
         a = b;
         k += 1;
     }

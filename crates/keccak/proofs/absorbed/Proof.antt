@@ -19,7 +19,7 @@ returns c =
     let start = known .before in
     let a = start .args .t1 in
     ap₂ (λ (p q : List ℕ). bytesOf (fronted p q a)) (first .five-xored .ensures) (second .four-xored .ensures)
-    ∙ block-in (now (start .args .part)) 0 (start .pre) (record { each = λ i. known .shared-slice-known .given i .fits }) a
+    ∙ block-in (now (start .args .block)) (start .pre) (record { each = λ i. known .shared-slice-known .given i .fits }) a
 
 pub absorbed-spec : {M : Type 1} → statement M
 absorbed-spec =
