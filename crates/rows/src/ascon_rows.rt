@@ -27,18 +27,18 @@ pub fn bits(state: [u8; 50], y: &[u8], first: u32, calls: u32, from: u32, count:
 pub fn blocks(
     state: [u8; 50],
     src: &[u8],
-    first: u32,
-    calls: u32,
+    first: usize,
+    calls: usize,
     from: u32,
     count: u32,
 ) -> [u8; 50]
-    requires { ⌜ ((first + calls) * 8 ≤ length (now src)) × (length (now src) ≤ 4096) × (from + count ≤ 12) ⌝ }
+    requires { ⌜ ((first + calls) * 8 ≤ length (now src)) × (from + count ≤ 12) ⌝ }
     ensures { λ r. ⌜ r ≡ fed (run 40 asconRound from count) (blockIn 8 (now (src .entry))) first calls state ⌝ }
 {
     let mut w = ascon::words_of(&state);
-    let mut k: u32 = 0;
+    let mut k = 0;
     while k < calls {
-        let at = (first + k) as usize * 8;
+        let at = (first + k) * 8;
         w = ascon::run(ascon::absorbed(w, &src[at..at + 8]), from, count);
         k += 1;
     }
@@ -52,19 +52,19 @@ pub fn texts(
     out: &mut [u8],
     text: &[u8],
     state: [u8; 50],
-    first: u32,
-    calls: u32,
+    first: usize,
+    calls: usize,
     from: u32,
     count: u32,
 ) -> [u8; 50]
-    requires { ⌜ ((first + calls) * 8 ≤ length (now text)) × (length (now text) ≤ 4096) × (length (now out) ≡ length (now text)) × (from + count ≤ 12) ⌝ }
+    requires { ⌜ ((first + calls) * 8 ≤ length (now text)) × (length (now out) ≡ length (now text)) × (from + count ≤ 12) ⌝ }
     ensures { λ r. ⌜ (r ≡ fed (run 40 asconRound from count) nothingIn first calls state) × (now (out .exit) ≡ writtenBy (run 40 asconRound from count) 8 (now (text .entry)) first calls state (now (out .entry))) ⌝ }
 {
     let mut w = ascon::words_of(&state);
-    let mut k: u32 = 0;
+    let mut k = 0;
     while k < calls {
         w = ascon::run(w, from, count);
-        ascon::write_xored(out, (first + k) as usize * 8, text, w);
+        ascon::write_xored(out, (first + k) * 8, text, w);
         k += 1;
     }
     let mut s = state;

@@ -28,18 +28,18 @@ pub fn bits(state: [u8; 50], y: &[u8], first: u32, calls: u32, from: u32, count:
 pub fn blocks(
     state: [u8; 50],
     src: &[u8],
-    first: u32,
-    calls: u32,
+    first: usize,
+    calls: usize,
     from: u32,
     count: u32,
 ) -> [u8; 50]
-    requires { ⌜ ((first + calls) * 18 ≤ length (now src)) × (length (now src) ≤ 4096) × (from + count ≤ 20) ⌝ }
+    requires { ⌜ ((first + calls) * 18 ≤ length (now src)) × (from + count ≤ 20) ⌝ }
     ensures { λ r. ⌜ r ≡ fed (run 50 keccakRound from count) (blockIn 18 (now (src .entry))) first calls state ⌝ }
 {
     let mut a = keccak::lanes_of(&state);
-    let mut k: u32 = 0;
+    let mut k = 0;
     while k < calls {
-        let at = (first + k) as usize * 18;
+        let at = (first + k) * 18;
         let b = keccak::run(keccak::absorbed(a, &src[at..at + 18]), from, count);
         a = b;
         k += 1;
@@ -54,19 +54,19 @@ pub fn texts(
     out: &mut [u8],
     text: &[u8],
     state: [u8; 50],
-    first: u32,
-    calls: u32,
+    first: usize,
+    calls: usize,
     from: u32,
     count: u32,
 ) -> [u8; 50]
-    requires { ⌜ ((first + calls) * 18 ≤ length (now text)) × (length (now text) ≤ 4096) × (length (now out) ≡ length (now text)) × (from + count ≤ 20) ⌝ }
+    requires { ⌜ ((first + calls) * 18 ≤ length (now text)) × (length (now out) ≡ length (now text)) × (from + count ≤ 20) ⌝ }
     ensures { λ r. ⌜ (r ≡ fed (run 50 keccakRound from count) nothingIn first calls state) × (now (out .exit) ≡ writtenBy (run 50 keccakRound from count) 18 (now (text .entry)) first calls state (now (out .entry))) ⌝ }
 {
     let mut a = keccak::lanes_of(&state);
-    let mut k: u32 = 0;
+    let mut k = 0;
     while k < calls {
         let b = keccak::run(a, from, count);
-        keccak::write_xored(out, (first + k) as usize * 18, text, b);
+        keccak::write_xored(out, (first + k) * 18, text, b);
         a = b;
         k += 1;
     }

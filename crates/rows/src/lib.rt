@@ -26,15 +26,15 @@ fn bits(instance: u32, state: [u8; 50], y: &[u8], first: u32, calls: u32) -> [u8
 
 // Blocks of a string that the MAC absorbs.
 fn blocks(instance: u32, state: [u8; 50], src: &[u8], first: u32, calls: u32) -> [u8; 50]
-    requires { ⌜ ((first + calls) * paramsOf instance .b ≤ length (now src)) × (length (now src) ≤ 4096) ⌝ }
+    requires { ⌜ (first + calls) * paramsOf instance .b ≤ length (now src) ⌝ }
     ensures { λ r. ⌜ r ≡ fed (roundsOf (paramsOf instance) (paramsOf instance .sH)) (blockIn (paramsOf instance .b) (now (src .entry))) first calls state ⌝ }
 {
     let q = plan::numbers_of(instance);
     let from = q.most - q.sh;
     if sponge::on_ascon(instance) {
-        return ascon_rows::blocks(state, src, first, calls, from, q.sh);
+        return ascon_rows::blocks(state, src, first as usize, calls as usize, from, q.sh);
     }
-    keccak_rows::blocks(state, src, first, calls, from, q.sh)
+    keccak_rows::blocks(state, src, first as usize, calls as usize, from, q.sh)
 }
 
 // The ciphertext is the output of a sealing and the text of an opening.
@@ -47,7 +47,7 @@ fn ciphers(
     first: u32,
     calls: u32,
 ) -> [u8; 50]
-    requires { ⌜ ((first + calls) * paramsOf instance .b ≤ length (now text)) × (length (now text) ≤ 4096) × (length (now out) ≡ length (now text)) ⌝ }
+    requires { ⌜ ((first + calls) * paramsOf instance .b ≤ length (now text)) × (length (now out) ≡ length (now text)) ⌝ }
     ensures { λ r. ⌜ r ≡ fed (roundsOf (paramsOf instance) (paramsOf instance .sH)) (blockIn (paramsOf instance .b) (pick sealing (now (out .entry)) (now (text .entry)))) first calls state ⌝ }
 {
     if sealing {
@@ -65,15 +65,15 @@ fn texts(
     first: u32,
     calls: u32,
 ) -> [u8; 50]
-    requires { ⌜ ((first + calls) * paramsOf instance .b ≤ length (now text)) × (length (now text) ≤ 4096) × (length (now out) ≡ length (now text)) ⌝ }
+    requires { ⌜ ((first + calls) * paramsOf instance .b ≤ length (now text)) × (length (now out) ≡ length (now text)) ⌝ }
     ensures { λ r. ⌜ (r ≡ fed (roundsOf (paramsOf instance) (paramsOf instance .sE)) nothingIn first calls state) × (now (out .exit) ≡ writtenBy (roundsOf (paramsOf instance) (paramsOf instance .sE)) (paramsOf instance .b) (now (text .entry)) first calls state (now (out .entry))) ⌝ }
 {
     let q = plan::numbers_of(instance);
     let from = q.most - q.se;
     if sponge::on_ascon(instance) {
-        return ascon_rows::texts(out, text, state, first, calls, from, q.se);
+        return ascon_rows::texts(out, text, state, first as usize, calls as usize, from, q.se);
     }
-    keccak_rows::texts(out, text, state, first, calls, from, q.se)
+    keccak_rows::texts(out, text, state, first as usize, calls as usize, from, q.se)
 }
 
 // Whether a part of a kind has many calls.

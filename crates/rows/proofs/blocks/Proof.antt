@@ -15,7 +15,7 @@ blocks-requires c κs =
     let q = c .before .before .before .numbers-of .ensures in
     let a = c .before .before .before .before .before in
     let e = runs-ascon (a .args .instance) (sym (c .before .on-ascon .ensures) ∙ c .if1 .taken) in
-    (subst (λ (b : ℕ). (a .args .first + a .args .calls) * b ≤ length (a .args .src .now)) (e .block) (a .pre .0), a .pre .1, omega (arith, e .most, q .most, q .shMost))
+    (subst (λ (b : ℕ). (a .args .first + a .args .calls) * b ≤ length (a .args .src .now)) (e .block) (a .pre), omega (arith, e .most, q .most, q .shMost))
 
 returns : tie.Need-returns
 returns c =
@@ -31,7 +31,7 @@ blocks-requires-2 c κs =
     let q = c .before .before .before .numbers-of .ensures in
     let a = c .before .before .before .before .before in
     let e = runs-keccak (a .args .instance) (sym (c .before .on-ascon .ensures) ∙ c .if1 .left) in
-    (subst (λ (b : ℕ). (a .args .first + a .args .calls) * b ≤ length (a .args .src .now)) (e .block) (a .pre .0), a .pre .1, omega (arith, e .most, q .most, q .shMost))
+    (subst (λ (b : ℕ). (a .args .first + a .args .calls) * b ≤ length (a .args .src .now)) (e .block) (a .pre), omega (arith, e .most, q .most, q .shMost))
 
 returns-2 : tie.Need-returns-2
 returns-2 c =

@@ -53,7 +53,7 @@ returns-2 c =
 blocks-requires : tie.Need-blocks-requires
 blocks-requires c κs =
     let can = c .before .before .before .before .before .before .pre in
-    (assoc-room can (c .if3 .taken), omega (arith, can .assocLimit))
+    assoc-room can (c .if3 .taken)
 
 returns-3 : tie.Need-returns-3
 returns-3 c =
@@ -65,7 +65,7 @@ returns-3 c =
 ciphers-requires : tie.Need-ciphers-requires
 ciphers-requires c κs =
     let can = c .before .before .before .before .before .before .before .before .pre in
-    (cipher-room can (c .before .if4 .taken), can .textLimit, can .outLong)
+    (cipher-room can (c .before .if4 .taken), can .outLong)
 
 returns-4 : tie.Need-returns-4
 returns-4 c =
@@ -80,7 +80,7 @@ texts-requires : tie.Need-texts-requires
 texts-requires c κs =
     let can = c .before .before .before .before .before .before .before .before .pre in
     let is = text-else can (c .before .before .before .before .if1 .left) (c .before .before .before .if2 .left) (c .before .before .if3 .left) (c .before .if4 .left) in
-    (text-room can is, can .textLimit, can .outLong)
+    (text-room can is, can .outLong)
 
 returns-5 : tie.Need-returns-5
 returns-5 c =

@@ -19,7 +19,6 @@ texts-requires c κs =
     let e = runs-ascon (a .args .instance) (sym (i .before .on-ascon .ensures) ∙ i .if1 .taken) in (
       subst (λ (b : ℕ). (a .args .first + a .args .calls) * b ≤ length (a .args .text .now)) (e .block) (a .pre .0),
       a .pre .1,
-      a .pre .2,
       omega (arith, e .most, q .most, q .seMost, q .mostLeast),
     )
 
@@ -43,7 +42,6 @@ texts-requires-2 c κs =
     let e = runs-keccak (a .args .instance) (sym (i .before .on-ascon .ensures) ∙ i .if1 .left) in (
       subst (λ (b : ℕ). (a .args .first + a .args .calls) * b ≤ length (a .args .text .now)) (e .block) (a .pre .0),
       a .pre .1,
-      a .pre .2,
       omega (arith, e .most, q .most, q .seMost, q .mostLeast),
     )
 
