@@ -36,13 +36,11 @@ use Rattle.rows.specs.Fed.{fed, bitIn, blockIn, nothingIn, writtenBy}
 unfoldable pub many : ℕ → Bool
 many kind = pick (eqb kind 1) true (pick (eqb kind 8) true (pick (eqb kind 5) true (pick (eqb kind 6) true (eqb kind 3))))
 
--- calls of such a part, neither its first nor its last, with buffers within the limits
+-- calls of such a part, neither its first nor its last, and an output as long as the text
 pub record CanGo (instance kind call calls : ℕ) (assoc text out : List ℕ) : Type 0 where
   pub isMany : many kind ≡ true
   pub notFirst : 0 < call
   pub notLast : call + calls < shapeOf (paramsOf instance) (length assoc) (length text) kind .count
-  pub assocLimit : length assoc ≤ 256
-  pub textLimit : length text ≤ 4096
   pub outLong : length out ≡ length text
 
 -- state and output after them; session bytes and tag are as they were
