@@ -8,3 +8,4 @@ pub mod Follows
 pub mod Chunks
 pub mod Wholes
 pub mod Halts
+pub mod Since
