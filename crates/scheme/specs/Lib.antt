@@ -3,3 +3,5 @@ pub mod Blind
 pub mod Scheme
 pub mod Lawful
 pub mod Calls
+pub mod Quiet
+pub mod Blocks
