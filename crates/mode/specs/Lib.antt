@@ -13,3 +13,6 @@ pub mod Beyond
 pub mod Instances
 pub mod Isap
 pub mod Checked
+pub mod Touches
+pub mod Between
+pub mod Outputs
