@@ -15,4 +15,7 @@ pub mod Isap
 pub mod Checked
 pub mod Touches
 pub mod Between
+pub mod Hashing
 pub mod Outputs
+pub mod Aside
+pub mod Sessions
