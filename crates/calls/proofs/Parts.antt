@@ -93,16 +93,14 @@ module _ (instance : ℕ) (sealing : Bool) (part : ℕ) where
       under small = omega (arith, r 0 0, rounds-most instance 0 0 kind small)
 
     pub can-go : (call calls : ℕ) (assoc text out : List ℕ) → Inner (schemeOf instance) sealing (length assoc) (length text) part call calls
-        → rowable instance sealing part ≡ true → length out ≡ length text → length assoc ≤ 256 → length text ≤ 4096 → CanGo instance kind call calls assoc text out
+        → rowable instance sealing part ≡ true → length out ≡ length text → CanGo instance kind call calls assoc text out
     unfolding rowable
-    can-go call calls assoc text out i y long la lt =
+    can-go call calls assoc text out i y long =
         record {
           isMany = ap many k ∙ y;
           notFirst = i .notFirst;
           notLast = subst (λ (q : Shape). call + calls < q .count) (shape-at (length assoc) (length text)) (i .notLast);
           outLong = long;
-          assocLimit = la;
-          textLimit = lt;
         }
 
     -- ---- what it gives

@@ -131,7 +131,7 @@ pub fn go(
     out: &mut [u8],
     calls: u32,
 ) -> [u8; 50]
-    requires { ⌜ (Inner (schemeOf instance) sealing (length (now assoc)) (length (now text)) (at .part) (at .call) calls) × (rowable instance sealing (at .part) ≡ true) × (length (now out) ≡ length (now text)) × (length (now assoc) ≤ 256) × (length (now text) ≤ 4096) ⌝ }
+    requires { ⌜ (Inner (schemeOf instance) sealing (length (now assoc)) (length (now text)) (at .part) (at .call) calls) × (rowable instance sealing (at .part) ≡ true) × (length (now out) ≡ length (now text)) ⌝ }
     ensures { λ r. ⌜ Goes (schemeOf instance) sealing (at .part) (at .call) calls nonce (now (assoc .entry)) (now (text .entry)) state session (now (out .entry)) r (now (out .exit)) ⌝ }
 {
     let kind = plan::kind_of(sealing, at.part);

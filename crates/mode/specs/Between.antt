@@ -12,7 +12,7 @@ use native.Mathlib.Omega.{arith}
 use Rattle.bits.specs.Pick.{pick}
 use Rattle.mode.specs.Params.{Params, LawfulParams}
 use Rattle.mode.specs.Paper.{blocks, isapEnc, hashed}
-use Rattle.mode.specs.Parts.{Input, cipherOf}
+use Rattle.scheme.specs.Machine.{Input, cipherOf}
 use Rattle.mode.specs.Counts.{rekeyRounds, encryptRounds}
 
 -- of the blocks of a text of m bytes, how many are written after n rounds of its encryption: none in the R rounds of re-keying, and then

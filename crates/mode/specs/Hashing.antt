@@ -12,13 +12,15 @@ use Rattle.stopping.specs.Stopped.{Call, whole}
 use Rattle.stopping.specs.Rows.{run, calls, run-append}
 use Rattle.stopping.specs.Parts.{callOf, partRow, row}
 use Rattle.stopping.specs.Since.{calls-add}
-use Rattle.mode.specs.Strings.{xorInto, xorAt, cut, block, padded}
-use Rattle.mode.specs.StringLaws.{length-xorAt}
+use Rattle.bits.specs.Strings.{xorInto, xorAt, cut, block}
+use Rattle.mode.specs.Strings.{padded}
+use Rattle.bits.specs.StringLaws.{length-xorAt}
 use Rattle.mode.specs.Params.{Params, LawfulParams, perm, iv}
 use Rattle.mode.specs.Paper.{paddedBlocks, absorb, hashed}
 use Rattle.mode.specs.PaperLaws.{perm-long, length-start, cut-short, absorb-long, padded-short}
-use Rattle.mode.specs.Parts.{Machine, Input, first, cipherOf, part, macStart, assocs, ciphers}
-use Rattle.mode.specs.Calls.{machine, w-macStart, w-assocs, w-ciphers}
+use Rattle.scheme.specs.Machine.{Machine, Input, first, cipherOf, machine}
+use Rattle.mode.specs.Parts.{part, macStart, assocs, ciphers}
+use Rattle.mode.specs.Calls.{w-macStart, w-assocs, w-ciphers}
 use Rattle.mode.specs.Touches.{hashing}
 
 module _ (p : Params) (l : LawfulParams p) where

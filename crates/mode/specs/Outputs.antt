@@ -18,7 +18,8 @@ use Rattle.stopping.specs.Since.{stopped-over, halted-going}
 use Rattle.scheme.specs.Blocks.{callsDone, out-after}
 use Rattle.mode.specs.Params.{Params, LawfulParams}
 use Rattle.mode.specs.Paper.{blocks, isapEnc, seal}
-use Rattle.mode.specs.Parts.{Machine, Input, unlessEmpty, part, keyStart, keyBits, keyEnd, texts, macParts, sealingCourse, openingCourse, course}
+use Rattle.scheme.specs.Machine.{Machine, Input, unlessEmpty}
+use Rattle.mode.specs.Parts.{part, keyStart, keyBits, keyEnd, texts, macParts, sealingCourse, openingCourse, course}
 use Rattle.mode.specs.Counts.{rekeyRounds, verifyRounds, encryptRounds, frontShapes, rounds-mac, shapes-mac, front-some, lawful}
 use Rattle.mode.specs.Theorems.{Ready, sealing-accepted, sealing-out, opening-out}
 use Rattle.mode.specs.Between.{blocksWritten}

@@ -15,12 +15,13 @@ use Rattle.stopping.specs.Parts.{Part}
 use Rattle.stopping.specs.Kept.{KeepsParts, keeps-parts}
 use Rattle.scheme.specs.Quiet.{Rest, rest, Quiet, quiet-keeps}
 use Rattle.scheme.specs.Blocks.{Writes}
-use Rattle.mode.specs.Strings.{block}
-use Rattle.mode.specs.StringLaws.{length-block}
+use Rattle.bits.specs.Strings.{block}
+use Rattle.bits.specs.StringLaws.{length-block}
 use Rattle.mode.specs.Params.{Params, LawfulParams}
 use Rattle.mode.specs.Paper.{blocks}
 use Rattle.mode.specs.PaperLaws.{blocks-are}
-use Rattle.mode.specs.Parts.{Machine, Input, unlessEmpty, nothing, part, keyStart, keyBits, keyEnd, written, texts, macStart, assocs, ciphers, setAside, macKeyStart, macKeyBits, macKeyEnd, takeBack, tagged, macEnd, encParts, macParts}
+use Rattle.scheme.specs.Machine.{Machine, Input, unlessEmpty, nothing}
+use Rattle.mode.specs.Parts.{part, keyStart, keyBits, keyEnd, written, texts, macStart, assocs, ciphers, setAside, macKeyStart, macKeyBits, macKeyEnd, takeBack, tagged, macEnd, encParts, macParts}
 
 -- ---- the parts that touch the state alone
 

@@ -18,7 +18,7 @@ go-requires c κs =
     let z = c .before .before .before .before .before in
     let a = z .args in
     let h = of-eleven (a .instance) (a .sealing) (a .at .part) (length (a .assoc .now)) (length (a .text .now)) (z .pre .0 .isPart) in
-    can-go (a .instance) (a .sealing) (a .at .part) (k .result) (k .ensures .0) h (a .at .call) (a .calls) (a .assoc .now) (a .text .now) (a .out .now) (z .pre .0) (z .pre .1) (z .pre .2) (z .pre .3) (z .pre .4)
+    can-go (a .instance) (a .sealing) (a .at .part) (k .result) (k .ensures .0) h (a .at .call) (a .calls) (a .assoc .now) (a .text .now) (a .out .now) (z .pre .0) (z .pre .1) (z .pre .2)
 
 returns : tie.Need-returns
 returns c =

@@ -14,7 +14,7 @@ go-requires c κs =
     let z = c .before .before .before .before .before .before .before .before .before in
     let a = z .args in
     let h = z .pre .0 in
-    (inner (a .job) (a .assoc .now) (a .text .now) (a .out .now) h (a .calls) (z .pre .1 .row), z .pre .1 .isMany, h .outLong ∙ sym (h .textLong), omega (arith, h .assocLong, h .assocLimit), omega (arith, h .textLong, h .textLimit))
+    (inner (a .job) (a .assoc .now) (a .text .now) (a .out .now) h (a .calls) (z .pre .1 .row), z .pre .1 .isMany, h .outLong ∙ sym (h .textLong))
 
 rounds-at-requires : tie.Need-rounds-at-requires
 rounds-at-requires c κs = let z = c .before .before .before .before .before .before .before .before .before .before .before .before in is-part (z .args .job) (fresh-at schemeOf lawful-scheme (z .pre .0))
