@@ -17,7 +17,8 @@ use Rattle.instances.specs.Schemes.{schemeOf, lawful-scheme}
 use Rattle.isap.specs.declared.Job.{Job}
 use Rattle.isap.specs.Records.{frontOf, backOf, after, ran}
 use Rattle.isap.specs.Slices.{standsOf, lentOf, numberOf, refusalOf, answer, sliceOf, outOf}
-use Rattle.isap.specs.Promises.{Slices, slice-refused}
+use Rattle.isap.specs.Statements.{Slices}
+use Rattle.isap.specs.Refused.{slice-refused}
 use Rattle.isap.specs.Sofar.{Fresh, Sofar, Timed, sofar-end, fresh-of}
 
 module _ (j : Job) (assoc text out : List ℕ) where

@@ -24,7 +24,8 @@ use Rattle.isap.specs.Beginnings.{limitsRefusal, tagRefusal, orElse, beg
 use Rattle.isap.specs.Begun.{begun-job, begun-stands}
 use Rattle.isap.specs.Whole.{refusalFor, sealOf, sealOut, sealTag, openOf, openOut}
 use Rattle.isap.specs.Fits.{fits, or-zero}
-use Rattle.isap.specs.Promises.{Seals, Opens, sealing-refused, opening-refused}
+use Rattle.isap.specs.Statements.{Seals, Opens}
+use Rattle.isap.specs.Refused.{sealing-refused, opening-refused}
 use Rattle.isap.specs.Runs.{sealing-answer, sealing-writes, sealing-tags, opening-answer, opening-writes}
 
 -- ---- one slice of a job just begun

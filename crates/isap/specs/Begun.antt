@@ -67,6 +67,23 @@ limits-within i d a m k w ha hm =
     let t = directed d w in
     rw (k, le-leb 1 d (t .0), le-leb d 2 (t .1), le-leb a mostAssoc ha, le-leb m mostText hm)
 
+-- every refusal is small
+pub or-most : (r s n : ℕ) → r ≤ n → s ≤ n → orElse r s ≤ n
+unfolding orElse
+or-most r s n h k = go (eqb r 0)
+  where
+    go : (b : Bool) → pick b s r ≤ n
+    go true = k
+    go false = h
+
+pub tag-small : (t : ℕ) → tagRefusal t ≤ 7
+unfolding tagRefusal
+tag-small t = go (eqb t 16)
+  where
+    go : (b : Bool) → pick {A = ℕ} b 0 7 ≤ 7
+    go true = omega arith
+    go false = omega arith
+
 -- no job ends before its first round: there are rounds up to its decision
 ending-start : (v e : ℕ) → 0 < v → endingOf v e 0 true ≡ 0
 ending-start v e h = ends-true v e 0 ∙ ap (λ (b : Bool). pick b 1 0) (ne-eqb 0 (v + e) (λ z. omega (arith, z, h)))

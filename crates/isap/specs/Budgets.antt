@@ -30,6 +30,8 @@ use Rattle.isap.specs.Records.{sealingOf, inputOf, machineOf, courseOf, 
 use Rattle.isap.specs.Slices.{endingRight, placeRight, limitsRight, standsOf, lentOf, numberOf, refusalOf, answer, sliceOf, outOf}
 use Rattle.isap.specs.Beginnings.{begunJob}
 use Rattle.isap.specs.Begun.{limits-within}
+use Rattle.isap.specs.Reached as reached
+use Rattle.isap.specs.Reached.{Begun}
 
 -- a job between two slices: its record, the output, and the rounds that its slices did
 pub record Progress : Type 0 where
@@ -41,33 +43,7 @@ unfoldable pub sum : List ℕ → ℕ
 sum [] = 0
 sum (b ∷ bs) = b + sum bs
 
--- ---- the endings that the rounds done allow
-
-abbrev Allowed : (b : Bool) → (v f e d : ℕ) → Type 0
-Allowed b v f e d = pick (eqb e 2) (pick b false (eqb d v)) (eqb e (endingOf v f d true)) ≡ true
-
-module _ (v f d : ℕ) where
-  allows-on : (b : Bool) (e : ℕ) → e ≡ 0 → d < v + f → Allowed b v f e d
-  allows-on b e z k = rw (z, ends-true v f d, ne-eqb d (v + f) (λ q. omega arith))
-
-  allows-well : (b : Bool) (e : ℕ) → e ≡ 1 → d ≡ v + f → Allowed b v f e d
-  allows-well b e z k = rw (z, ends-true v f d, eq-eqb d (v + f) k)
-
-  allows-refused : (b : Bool) (e : ℕ) → b ≡ false → e ≡ 2 → d ≡ v → Allowed b v f e d
-  allows-refused b e n z k = rw (z, n, eq-eqb d v k)
-
 module _ (of : ℕ → Scheme) where
-  -- a record as a beginning gives it, with what belongs to it lent
-  pub record Begun (j : Job) (assoc text out : List ℕ) : Type 0 where
-    pub isKnown : known (j .instance) ≡ true
-    pub isDirection : (j .direction ≡ 1) ⊎ (j .direction ≡ 2)
-    pub assocLimit : j .assoc ≤ mostAssoc
-    pub textLimit : j .text ≤ mostText
-    pub isBegun : j ≡ begunJob of (j .instance) (j .direction) (j .key) (j .nonce) (j .tag) (j .assoc) (j .text)
-    pub assocLong : length assoc ≡ j .assoc
-    pub textLong : length text ≡ j .text
-    pub outLong : length out ≡ j .text
-
   -- one slice
   unfoldable pub onward : (assoc text : List ℕ) → ℕ → Progress → Progress
   onward assoc text b q =
@@ -83,129 +59,39 @@ module _ (of : ℕ → Scheme) where
   sliced assoc text (b ∷ bs) q = sliced assoc text bs (onward assoc text b q)
 
 module _ (of : ℕ → Scheme) (laws : (i : ℕ) → LawfulScheme (of i)) where
-  -- ---- a begun job
-
   module _ (j : Job) (assoc text out : List ℕ) (h : Begun of j assoc text out) where
-    abbrev seals : Bool
-    seals = sealingOf (j .direction)
-
-    -- its rounds up to the decision and after it
-    abbrev before : ℕ
-    before = frontOf of j
-
-    abbrev beyond : ℕ
-    beyond = backOf of j
-
     abbrev c : Course Machine
     c = courseOf of j assoc text
 
     abbrev m : Machine
     m = machineOf j out
 
-    pub law : Lawful c
-    unfolding courseOf
-    law = lawful (of (j .instance)) (laws (j .instance)) (inputOf j assoc text)
+    abbrev law : Lawful c
+    law = reached.law of laws j assoc text out h
 
-    -- its record after n rounds, or at its end if that comes first
-    unfoldable pub at : ℕ → Job
-    at n = after of j (following c law m n)
-
-    -- ---- its rounds
-
-    front-is : frontRounds c ≡ before
-    unfolding courseOf frontOf
-    front-is =
-        front-rounds (of (j .instance)) (laws (j .instance)) (inputOf j assoc text)
-        ∙ ap₂ (of (j .instance) .frontCount seals) (h .assocLong) (h .textLong)
-
-    back-is : backRounds c ≡ beyond
-    unfolding courseOf backOf
-    back-is =
-        back-rounds (of (j .instance)) (laws (j .instance)) (inputOf j assoc text)
-        ∙ ap₂ (of (j .instance) .backCount seals) (h .assocLong) (h .textLong)
-
-    total-is : frontRounds c + backRounds c ≡ totalOf of j
-    total-is = ap₂ (λ (v e : ℕ). v + e) front-is back-is
-
-    seals-accepted : seals ≡ true → accepted c m ≡ true
-    unfolding courseOf
-    seals-accepted e = sealing-accepted (of (j .instance)) (laws (j .instance)) (inputOf j assoc text) e m
-
-    -- a refusal ends it at the decision
-    pub lasts-is : lasts c m ≡ pick (accepted c m) (totalOf of j) (frontOf of j)
-    unfolding lasts
-    lasts-is = ap₂ (λ (t v : ℕ). pick (accepted c m) t v) total-is front-is
-
-    pub sealing-lasts : j .direction ≡ 1 → lasts c m ≡ totalOf of j
-    sealing-lasts d = lasts-accepted c law m (seals-accepted (eq-eqb (j .direction) 1 d)) ∙ total-is
-
-    -- ---- its record stands, and the output is as long as the text
-
-    pub out-long : (n : ℕ) → length (halted c n m .out) ≡ j .text
-    unfolding courseOf
-    out-long n = scheme-out-long (of (j .instance)) (laws (j .instance)) (inputOf j assoc text) n m (h .outLong ∙ sym (h .textLong)) ∙ h .textLong
-
-    limits : limitsRight (j .instance) (j .direction) (j .assoc) (j .text) ≡ true
-    limits = limits-within (j .instance) (j .direction) (j .assoc) (j .text) (h .isKnown) (h .isDirection) (h .assocLimit) (h .textLimit)
-
-    -- at its end it has ended well, or by a refusal, and that only an opening
-    over-well : (n : ℕ) → lasts c m ≤ n → accepted c m ≡ true → Allowed seals before beyond (endedBy c n m) (min n (lasts c m))
-    over-well n k ok =
-        allows-well before beyond (min n (lasts c m)) seals (endedBy c n m) (ended c law m n k ∙ ap (λ (b : Bool). pick b 1 2) ok)
-        (omega (arith, lasts-accepted c law m ok, front-is, back-is))
-
-    over : (n : ℕ) → lasts c m ≤ n → (b : Bool) → seals ≡ b → (ok : Bool) → accepted c m ≡ ok
-        → Allowed seals before beyond (endedBy c n m) (min n (lasts c m))
-    over n k true s ok e = over-well n k (seals-accepted s)
-    over n k false s true e = over-well n k e
-    over n k false s false e =
-        allows-refused before beyond (min n (lasts c m)) seals (endedBy c n m) s (ended c law m n k ∙ ap (λ (b : Bool). pick b 1 2) e)
-        (omega (arith, lasts-refused c law m e, front-is))
-
-    ending-at : (n : ℕ) → endingRight of (at n) ≡ true
-    unfolding endingRight at frontOf backOf following
-    ending-at n =
-        elim (decLt n (lasts c m)) [
-          | yes y ↦ allows-on before beyond (min n (lasts c m)) seals (endedBy c n m) (unended c law m n y) (omega (arith, y, lasts-most c law m, front-is, back-is))
-          | no k ↦ over n (omega arith) seals refl (accepted c m) refl
-        ]
-
-    place-at : (n : ℕ) → placeRight of (at n) ≡ true
-    unfolding placeRight at shapesOf passes
-    place-at n =
-        let w = placed (placeOf (shapesOf of j) (following c law m n .done)) in
-        let e0 = eq-eqb (w .part) (w .part) refl in
-        let e1 = eq-eqb (w .call) (w .call) refl in
-        let e2 = eq-eqb (w .round) (w .round) refl in
-        λ i. passes (e0 i ∷ e1 i ∷ e2 i ∷ [])
-
-    pub stands-at : (n : ℕ) → standsOf of (at n) ≡ true
-    unfolding standsOf passes at frontOf backOf following
-    stands-at n =
-        let done = le-leb (min n (lasts c m)) (totalOf of j) (omega (arith, lasts-most c law m, total-is)) in
-        let e = ending-at n in
-        let w = place-at n in
-        λ i. passes (limits i ∷ done i ∷ e i ∷ w i ∷ [])
+    -- its record after n rounds
+    abbrev at : ℕ → Job
+    at n = reached.at of laws j assoc text out h n
 
     -- ---- a slice of it
 
     lent-at : (n : ℕ) → lentOf (at n) assoc text (halted c n m .out) ≡ true
-    unfolding lentOf at passes
+    unfolding lentOf reached.at passes
     lent-at n =
         let a = eq-eqb (length assoc) (j .assoc) (h .assocLong) in
         let t = eq-eqb (length text) (j .text) (h .textLong) in
-        let o = eq-eqb (length (halted c n m .out)) (j .text) (out-long n) in
+        let o = eq-eqb (length (halted c n m .out)) (j .text) (reached.out-long of laws j assoc text out h n) in
         λ i. passes (a i ∷ t i ∷ o i ∷ [])
 
     refusal-at : (n : ℕ) → refusalOf of (at n) assoc text (halted c n m .out) ≡ pick (eqb (endedBy c n m) 0) 0 10
-    unfolding refusalOf at following
+    unfolding refusalOf reached.at following
     refusal-at n =
-        let s = stands-at n in
+        let s = reached.stands-at of laws j assoc text out h n in
         let g = lent-at n in
         λ i. pick (s i) (pick (eqb (endedBy c n m) 0) (pick (g i) 0 11) 10) 9
 
     ran-at : (n b : ℕ) → ran of (at n) assoc text (halted c n m .out) b ≡ following c law m (n + b)
-    unfolding ran courseOf at following
+    unfolding ran courseOf reached.at following
     ran-at n b = ap (steps c b) (sym (follows c law m n)) ∙ sym (steps-add c n b (begun m)) ∙ follows c law m (n + b)
 
     -- past its end nothing changes
@@ -228,7 +114,7 @@ module _ (of : ℕ → Scheme) (laws : (i : ℕ) → LawfulScheme (of i)) where
 
     slice-on : (n b : ℕ) → n < lasts c m → sliceOf of (at n) assoc text (halted c n m .out) b
         ≡ record { number = numberOf (endedBy c (n + b) m); rounds = min (n + b) (lasts c m) - n; job = at (n + b) }
-    unfolding sliceOf answer at following shapesOf
+    unfolding sliceOf answer reached.at following shapesOf
     slice-on n b y =
         let r = refusal-on n y in
         let d : min n (lasts c m) ≡ n = omega arith in
@@ -271,7 +157,7 @@ module _ (of : ℕ → Scheme) (laws : (i : ℕ) → LawfulScheme (of i)) where
     stand n = record { job = at n; out = halted c n m .out; rounds = min n (lasts c m) }
 
     onward-at : (n b : ℕ) → onward of assoc text b (stand n) ≡ stand (n + b)
-    unfolding onward stand at
+    unfolding onward stand reached.at
     onward-at n b =
         let o = slice-at n b .1 in
         elim (decLt n (lasts c m)) [
@@ -295,7 +181,7 @@ module _ (of : ℕ → Scheme) (laws : (i : ℕ) → LawfulScheme (of i)) where
 
     -- before the first round
     stand-first : record { job = j; out = out; rounds = 0 } ≡ stand 0
-    unfolding stand at steps following shapesOf begunJob
+    unfolding stand reached.at steps following shapesOf begunJob
     stand-first =
         let z : 0 ≡ min 0 (lasts c m) = omega arith in
         let d = ap (λ (y : Job). y .done) (h .isBegun) in

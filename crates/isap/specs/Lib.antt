@@ -2,11 +2,16 @@ pub mod Records
 pub mod Slices
 pub mod Beginnings
 pub mod Whole
+pub mod Statements
 pub mod Begun
+pub mod Determined
+pub mod Refused
 pub mod Fits
 pub mod Runs
 pub mod Turns
 pub mod Sofar
 pub mod Rows
+pub mod Reached
 pub mod Budgets
+pub mod Begins
 pub mod Promises

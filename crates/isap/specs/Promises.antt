@@ -1,192 +1,34 @@
--- What the public calls promise, on their definitions alone: two results that a statement allows are equal; a refusal changes nothing;
--- slices to the end give what the whole call gives; opening what sealing gave gives the message back.
+-- What follows of slices and whole calls, on their definitions alone: a budget of 0 and a slice after the end; slices to the end give what the
+-- whole call gives; opening what sealing gave gives the message back.
 -- Assumes nothing.
 use mathlib.Core.Path.{_≡_, refl, sym, ap, _∙_, subst}
 use mathlib.Core.Bool.{Bool, true, false}
 use mathlib.Core.Logic.{_⊎_, inl, inr}
 use mathlib.Core.List.{List}
-use Prim.Native.Nat.{ℕ, _+_, _-_, _/_, _%_, _≤_, _<_, min}
+use Prim.Native.Nat.{ℕ, _+_, _-_, _≤_, _<_, min}
 use native.Mathlib.Omega.{arith}
-use lib.Dec.{eqb}
 use lib.ListN.{length, replicate}
-use borrow.Author.Tests.{eqb-true, eq-eqb, ne-eqb, lt-ltb, le-ltb}
+use borrow.Author.Tests.{eq-eqb, lt-ltb, le-ltb}
 use Rattle.bits.specs.Pick.{pick}
+use Rattle.bits.specs.Bytes.{Bytes}
 use Rattle.stopping.specs.Stopped.{stopped}
 use Rattle.stopping.specs.Parts.{row}
 use Rattle.stopping.specs.Course.{parts, lasts, halted, endedBy}
 use Rattle.stopping.specs.Follows.{following, unended}
-use Rattle.bits.specs.Bytes.{Bytes}
 use Rattle.scheme.specs.Machine.{Opened, Buffer}
 use Rattle.scheme.specs.Scheme.{Scheme, allCount}
 use Rattle.scheme.specs.Lawful.{Given, LawfulScheme}
-use Rattle.plan.specs.declared.Planned.{Planned}
-use Rattle.plan.specs.Planned.{planOf}
 use Rattle.isap.specs.declared.Job.{Job}
-use Rattle.isap.specs.declared.Begun as begins
-use Rattle.isap.specs.declared.Sliced.{Sliced}
 use Rattle.isap.specs.declared.Answer.{Answer}
 use Rattle.isap.specs.Records.{courseOf, machineOf, ran}
-use Rattle.isap.specs.Slices.{numberOf, refusalOf, sliceOf, outOf}
-use Rattle.isap.specs.Beginnings.{limitsRefusal, tagRefusal, orElse, begunJob, noJob, begunOr, beginSealOf, beginOpenOf}
-use Rattle.isap.specs.Begun.{limits-none, limits-small, or-none, begun-job}
-use Rattle.isap.specs.Whole.{refusalFor, sealOf, sealOut, sealTag, openOf, openOut, openedAnswer, openedOut, packed}
+use Rattle.isap.specs.Slices.{numberOf, sliceOf, outOf}
+use Rattle.isap.specs.Beginnings.{limitsRefusal, begunJob}
+use Rattle.isap.specs.Whole.{refusalFor, sealOf, sealOut, sealTag, openOf, openOut, openedAnswer, openedOut}
+use Rattle.isap.specs.Statements.{Seals, Opens}
 use Rattle.isap.specs.Fits.{Fits, fits, unrefused}
 use Rattle.isap.specs.Runs.{runs, sealing-answer, sealing-writes, sealing-tags, opening-answer, opening-writes}
-use Rattle.isap.specs.Budgets.{Begun, Progress, sliced, sum, law, at, slice-at, budgets}
-
--- what a host in C takes apart again
-pub packed-number : (number rounds : ℕ) → number < 4294967296 → packed number rounds % 4294967296 ≡ number
-packed-number number rounds h = omega arith
-
-pub packed-rounds : (number rounds : ℕ) → number < 4294967296 → packed number rounds / 4294967296 ≡ rounds
-packed-rounds number rounds h = omega arith
-
--- the plans
-module _ (instance a m : ℕ) where
-  pub one-plan : (r r′ : Planned) → r ≡ planOf instance a m → r′ ≡ planOf instance a m → r ≡ r′
-  one-plan r r′ h k = h ∙ sym k
-
-  pub one-plan-in-c : (f : Planned → ℕ) (r r′ : ℕ) → r ≡ packed (planOf instance a m .number) (f (planOf instance a m))
-      → r′ ≡ packed (planOf instance a m .number) (f (planOf instance a m)) → r ≡ r′
-  one-plan-in-c f r r′ h k = h ∙ sym k
-
-begun-number : (r : ℕ) (j : Job) → r ≤ 7 → begunOr r j .number ≡ 100 → r ≡ 0
-unfolding begunOr
-begun-number r j small e = go (eqb r 0) refl e
-  where
-    go : (b : Bool) → eqb r 0 ≡ b → pick {A = begins.Begun} b (record { number = 100; rounds = 0; job = j }) (record { number = r; rounds = 0; job = noJob }) .number ≡ 100 → r ≡ 0
-    go true q n = eqb-true r 0 q
-    go false q n = absurd (omega (arith, small, n))
-
-refusal-small : (r s : ℕ) → r ≤ 7 → s ≤ 7 → orElse r s ≤ 7
-unfolding orElse
-refusal-small r s h k = go (eqb r 0)
-  where
-    go : (b : Bool) → pick b s r ≤ 7
-    go true = k
-    go false = h
-
-tag-small : (t : ℕ) → tagRefusal t ≤ 7
-unfolding tagRefusal
-tag-small t = go (eqb t 16)
-  where
-    go : (b : Bool) → pick {A = ℕ} b 0 7 ≤ 7
-    go true = omega arith
-    go false = omega arith
-
-module _ (of : ℕ → Scheme) where
-  -- ---- two results that a statement allows are equal
-
-  module _ (instance : ℕ) (key nonce : List ℕ) (a m : ℕ) where
-    abbrev BeginsSealing : begins.Begun → Type 0
-    BeginsSealing r = r ≡ beginSealOf of instance key nonce a m
-
-    pub one-sealing-begun : (r r′ : begins.Begun) → BeginsSealing r → BeginsSealing r′ → r ≡ r′
-    one-sealing-begun r r′ h k = h ∙ sym k
-
-    abbrev BeginsOpening : (tag : List ℕ) → begins.Begun → Type 0
-    BeginsOpening tag r = r ≡ beginOpenOf of instance key nonce tag a m
-
-    pub one-opening-begun : (tag : List ℕ) (r r′ : begins.Begun) → BeginsOpening tag r → BeginsOpening tag r′ → r ≡ r′
-    one-opening-begun tag r r′ h k = h ∙ sym k
-
-  module _ (j : Job) (assoc text out : List ℕ) (budget : ℕ) where
-    abbrev pub Slices : Sliced → List ℕ → Type 0
-    Slices r out′ = (r ≡ sliceOf of j assoc text out budget) × (out′ ≡ outOf of j assoc text out budget)
-
-    pub one-slice : (r r′ : Sliced) (o o′ : List ℕ) → Slices r o → Slices r′ o′ → (r ≡ r′) × (o ≡ o′)
-    one-slice r r′ o o′ h k = (h .0 ∙ sym (k .0), h .1 ∙ sym (k .1))
-
-    -- a refused slice does no rounds, and leaves the record and the output
-    pub slice-refused : (refusalOf of j assoc text out ≡ 0 → ⊥)
-        → (sliceOf of j assoc text out budget ≡ record { number = refusalOf of j assoc text out; rounds = 0; job = j }) × (outOf of j assoc text out budget ≡ out)
-    unfolding sliceOf outOf
-    slice-refused f =
-        let no = ne-eqb (refusalOf of j assoc text out) 0 f in
-        (rw (sliceOf, no), rw (outOf, no))
-
-  module _ (instance : ℕ) (key nonce assoc text out tag : List ℕ) where
-    abbrev pub Seals : Answer → (out′ tag′ : List ℕ) → Type 0
-    Seals r o t =
-        (r ≡ sealOf of instance key nonce assoc text out tag) × (o ≡ sealOut of instance key nonce assoc text out tag) × (t ≡ sealTag of instance key nonce assoc text out tag)
-
-    pub one-sealing : (r r′ : Answer) (o o′ t t′ : List ℕ) → Seals r o t → Seals r′ o′ t′ → (r ≡ r′) × (o ≡ o′) × (t ≡ t′)
-    one-sealing r r′ o o′ t t′ h k = (h .0 ∙ sym (k .0), h .1 ∙ sym (k .1), h .2 ∙ sym (k .2))
-
-    pub sealing-refused : (refusalFor of instance key nonce assoc text out tag ≡ 0 → ⊥)
-        → Seals (record { number = refusalFor of instance key nonce assoc text out tag; rounds = 0 }) out tag
-    unfolding sealOf sealOut sealTag
-    sealing-refused f =
-        let no = ne-eqb (refusalFor of instance key nonce assoc text out tag) 0 f in
-        (rw no, rw no, rw no)
-
-    -- the same for a host in C
-    abbrev SealsInC : ℕ → (out′ tag′ : List ℕ) → Type 0
-    SealsInC r o t =
-        (r ≡ packed (sealOf of instance key nonce assoc text out tag .number) (sealOf of instance key nonce assoc text out tag .rounds))
-        × (o ≡ sealOut of instance key nonce assoc text out tag) × (t ≡ sealTag of instance key nonce assoc text out tag)
-
-    pub one-sealing-in-c : (r r′ : ℕ) (o o′ t t′ : List ℕ) → SealsInC r o t → SealsInC r′ o′ t′ → (r ≡ r′) × (o ≡ o′) × (t ≡ t′)
-    one-sealing-in-c r r′ o o′ t t′ h k = (h .0 ∙ sym (k .0), h .1 ∙ sym (k .1), h .2 ∙ sym (k .2))
-
-  module _ (instance : ℕ) (key nonce assoc text tag out : List ℕ) where
-    abbrev pub Opens : Answer → (out′ : List ℕ) → Type 0
-    Opens r o = (r ≡ openOf of instance key nonce assoc text tag out) × (o ≡ openOut of instance key nonce assoc text tag out)
-
-    pub one-opening : (r r′ : Answer) (o o′ : List ℕ) → Opens r o → Opens r′ o′ → (r ≡ r′) × (o ≡ o′)
-    one-opening r r′ o o′ h k = (h .0 ∙ sym (k .0), h .1 ∙ sym (k .1))
-
-    pub opening-refused : (refusalFor of instance key nonce assoc text out tag ≡ 0 → ⊥)
-        → Opens (record { number = refusalFor of instance key nonce assoc text out tag; rounds = 0 }) out
-    unfolding openOf openOut
-    opening-refused f =
-        let no = ne-eqb (refusalFor of instance key nonce assoc text out tag) 0 f in
-        (rw no, rw no)
-
-    abbrev OpensInC : ℕ → (out′ : List ℕ) → Type 0
-    OpensInC r o =
-        (r ≡ packed (openOf of instance key nonce assoc text tag out .number) (openOf of instance key nonce assoc text tag out .rounds))
-        × (o ≡ openOut of instance key nonce assoc text tag out)
-
-    pub one-opening-in-c : (r r′ : ℕ) (o o′ : List ℕ) → OpensInC r o → OpensInC r′ o′ → (r ≡ r′) × (o ≡ o′)
-    one-opening-in-c r r′ o o′ h k = (h .0 ∙ sym (k .0), h .1 ∙ sym (k .1))
-
-  -- ---- a beginning that is not refused gives a record of which all this is said
-
-  module _ (instance direction : ℕ) (key nonce tag : List ℕ) (a m : ℕ) (assoc text out : List ℕ)
-      (ha : length assoc ≡ a) (ht : length text ≡ m) (ho : length out ≡ m) (way : (direction ≡ 1) ⊎ (direction ≡ 2)) where
-    begins-as : (r : ℕ) → r ≤ 7 → (r ≡ 0 → limitsRefusal of instance (length key) (length nonce) a m ≡ 0)
-        → begunOr r (begunJob of instance direction key nonce tag a m) .number ≡ 100 → Begun of (begunOr r (begunJob of instance direction key nonce tag a m) .job) assoc text out
-    unfolding begunJob
-    begins-as r small limits e =
-        let none = begun-number r (begunJob of instance direction key nonce tag a m) small e in
-        let l = limits-none of instance (length key) (length nonce) a m (limits none) in
-        subst (λ (y : Job). Begun of y assoc text out) (sym (begun-job r (begunJob of instance direction key nonce tag a m) none))
-        (record {
-          isKnown = l .0;
-          isDirection = way;
-          assocLimit = l .3;
-          textLimit = l .4;
-          isBegun = refl;
-          assocLong = ha;
-          textLong = ht;
-          outLong = ho;
-        })
-
-  module _ (instance : ℕ) (key nonce : List ℕ) (a m : ℕ) (assoc text out : List ℕ) (ha : length assoc ≡ a) (ht : length text ≡ m) (ho : length out ≡ m) where
-    pub sealing-begins : beginSealOf of instance key nonce a m .number ≡ 100 → Begun of (beginSealOf of instance key nonce a m .job) assoc text out
-    unfolding beginSealOf
-    sealing-begins e =
-        begins-as instance 1 key nonce (replicate 16 0) a m assoc text out ha ht ho (inl refl) (limitsRefusal of instance (length key) (length nonce) a m)
-        (omega (arith, limits-small of instance (length key) (length nonce) a m)) (λ z. z) e
-
-    pub opening-begins : (tag : List ℕ) → beginOpenOf of instance key nonce tag a m .number ≡ 100 → Begun of (beginOpenOf of instance key nonce tag a m .job) assoc text out
-    unfolding beginOpenOf
-    opening-begins tag e =
-        let r = limitsRefusal of instance (length key) (length nonce) a m in
-        begins-as instance 2 key nonce tag a m assoc text out ha ht ho (inr refl) (orElse r (tagRefusal (length tag)))
-        (refusal-small r (tagRefusal (length tag)) (omega (arith, limits-small of instance (length key) (length nonce) a m)) (tag-small (length tag)))
-        (λ z. or-none r (tagRefusal (length tag)) z .0) e
+use Rattle.isap.specs.Reached.{Begun, law, at}
+use Rattle.isap.specs.Budgets.{Progress, sliced, sum, slice-at, budgets}
 
 module _ (of : ℕ → Scheme) (laws : (i : ℕ) → LawfulScheme (of i)) where
   -- ---- a budget of 0, and a slice after the end

@@ -4,7 +4,8 @@ ghost use Prim.Native.Nat.{_≤_};
 ghost use lib.ListN.{length};
 ghost use Rattle.instances.specs.Schemes.{schemeOf};
 ghost use Rattle.instances.specs.Limits.{mostAssoc, mostText};
-ghost use Rattle.isap.specs.Beginnings.{limitsRefusal, tagRefusal, orElse, begunJob, noJob, beginSealOf, beginOpenOf};
+ghost use Rattle.isap.specs.Beginnings.{limitsRefusal, tagRefusal, orElse, begunJob, noJob};
+ghost use Rattle.isap.specs.Statements.{BeginsSealing, BeginsOpening};
 use crate::Begun;
 use crate::Job;
 use plan::Place;
@@ -132,7 +133,7 @@ fn refused(number: u32) -> Begun
 
 // Begins a sealing of a text of m bytes with a bytes of associated data.
 pub fn begin_seal(instance: u32, key: &[u8], nonce: &[u8], a: u32, m: u32) -> Begun
-    ensures { λ r. ⌜ r ≡ beginSealOf schemeOf instance (now (key .entry)) (now (nonce .entry)) a m ⌝ }
+    ensures { λ r. ⌜ BeginsSealing schemeOf instance (now (key .entry)) (now (nonce .entry)) a m r ⌝ }
 {
     let refusal = limits_refusal(instance, key.len(), nonce.len(), a as usize, m as usize);
     if refusal != 0 {
@@ -149,7 +150,7 @@ pub fn begin_seal(instance: u32, key: &[u8], nonce: &[u8], a: u32, m: u32) -> Be
 
 // Begins an opening, with the tag received.
 pub fn begin_open(instance: u32, key: &[u8], nonce: &[u8], tag: &[u8], a: u32, m: u32) -> Begun
-    ensures { λ r. ⌜ r ≡ beginOpenOf schemeOf instance (now (key .entry)) (now (nonce .entry)) (now (tag .entry)) a m ⌝ }
+    ensures { λ r. ⌜ BeginsOpening schemeOf instance (now (key .entry)) (now (nonce .entry)) (now (tag .entry)) a m r ⌝ }
 {
     let limits = limits_refusal(instance, key.len(), nonce.len(), a as usize, m as usize);
     let refusal = or_else(limits, tag_refusal(tag.len()));

@@ -1,8 +1,8 @@
 // For a host in C: numbers and byte slices only. A slice is a pointer and a length.
 ghost use mathlib.Core.Path.{_≡_};
-ghost use Rattle.plan.specs.Planned.{planOf};
 ghost use Rattle.instances.specs.Schemes.{schemeOf};
-ghost use Rattle.isap.specs.Whole.{sealOf, sealOut, sealTag, openOf, openOut, packed};
+ghost use Rattle.isap.specs.Whole.{packed};
+ghost use Rattle.isap.specs.Statements.{PlansVerify, PlansTotal, SealsInC, OpensInC};
 use crate::whole;
 
 // The number in the low 32 bits, the rounds in the high 32.
@@ -22,7 +22,7 @@ pub extern "C" fn isap_seal(
     out: &mut [u8],
     tag: &mut [u8],
 ) -> u64
-    ensures { λ r. ⌜ (r ≡ packed (sealOf schemeOf instance (now (key .entry)) (now (nonce .entry)) (now (assoc .entry)) (now (text .entry)) (now (out .entry)) (now (tag .entry)) .number) (sealOf schemeOf instance (now (key .entry)) (now (nonce .entry)) (now (assoc .entry)) (now (text .entry)) (now (out .entry)) (now (tag .entry)) .rounds)) × (now (out .exit) ≡ sealOut schemeOf instance (now (key .entry)) (now (nonce .entry)) (now (assoc .entry)) (now (text .entry)) (now (out .entry)) (now (tag .entry))) × (now (tag .exit) ≡ sealTag schemeOf instance (now (key .entry)) (now (nonce .entry)) (now (assoc .entry)) (now (text .entry)) (now (out .entry)) (now (tag .entry))) ⌝ }
+    ensures { λ r. ⌜ SealsInC schemeOf instance (now (key .entry)) (now (nonce .entry)) (now (assoc .entry)) (now (text .entry)) (now (out .entry)) (now (tag .entry)) r (now (out .exit)) (now (tag .exit)) ⌝ }
 {
     let answer = whole::seal(instance, key, nonce, assoc, text, out, tag);
     pack(answer.number, answer.rounds)
@@ -38,7 +38,7 @@ pub extern "C" fn isap_open(
     tag: &[u8],
     out: &mut [u8],
 ) -> u64
-    ensures { λ r. ⌜ (r ≡ packed (openOf schemeOf instance (now (key .entry)) (now (nonce .entry)) (now (assoc .entry)) (now (text .entry)) (now (tag .entry)) (now (out .entry)) .number) (openOf schemeOf instance (now (key .entry)) (now (nonce .entry)) (now (assoc .entry)) (now (text .entry)) (now (tag .entry)) (now (out .entry)) .rounds)) × (now (out .exit) ≡ openOut schemeOf instance (now (key .entry)) (now (nonce .entry)) (now (assoc .entry)) (now (text .entry)) (now (tag .entry)) (now (out .entry))) ⌝ }
+    ensures { λ r. ⌜ OpensInC schemeOf instance (now (key .entry)) (now (nonce .entry)) (now (assoc .entry)) (now (text .entry)) (now (tag .entry)) (now (out .entry)) r (now (out .exit)) ⌝ }
 {
     let answer = whole::open(instance, key, nonce, assoc, text, tag, out);
     pack(answer.number, answer.rounds)
@@ -47,7 +47,7 @@ pub extern "C" fn isap_open(
 // The rounds of a verification, which a wrong tag takes.
 #[no_mangle]
 pub extern "C" fn isap_plan_verify(instance: u32, assoc_len: u32, text_len: u32) -> u64
-    ensures { λ r. ⌜ r ≡ packed (planOf instance «assoc_len» «text_len» .number) (planOf instance «assoc_len» «text_len» .verify) ⌝ }
+    ensures { λ r. ⌜ PlansVerify instance «assoc_len» «text_len» r ⌝ }
 {
     let planned = plan::plan(instance, assoc_len, text_len);
     pack(planned.number, planned.verify)
@@ -56,7 +56,7 @@ pub extern "C" fn isap_plan_verify(instance: u32, assoc_len: u32, text_len: u32)
 // The rounds of a sealing, and of an opening with a right tag.
 #[no_mangle]
 pub extern "C" fn isap_plan_total(instance: u32, assoc_len: u32, text_len: u32) -> u64
-    ensures { λ r. ⌜ r ≡ packed (planOf instance «assoc_len» «text_len» .number) (planOf instance «assoc_len» «text_len» .total) ⌝ }
+    ensures { λ r. ⌜ PlansTotal instance «assoc_len» «text_len» r ⌝ }
 {
     let planned = plan::plan(instance, assoc_len, text_len);
     pack(planned.number, planned.total)

@@ -1,7 +1,8 @@
 // A slice: a record, what belongs to it, and a budget of rounds.
 ghost use mathlib.Core.Path.{_≡_};
 ghost use Rattle.instances.specs.Schemes.{schemeOf};
-ghost use Rattle.isap.specs.Slices.{numberOf, refusalOf, sliceOf, outOf};
+ghost use Rattle.isap.specs.Slices.{numberOf, refusalOf};
+ghost use Rattle.isap.specs.Statements.{Slices};
 use crate::Job;
 use crate::Sliced;
 use crate::further::further;
@@ -44,7 +45,7 @@ fn refusal(job: Job, assoc: &[u8], text: &[u8], out: &[u8]) -> u32
 
 // Does the budget's rounds, or as many as the job still has.
 pub fn slice(job: Job, assoc: &[u8], text: &[u8], out: &mut [u8], budget: u32) -> Sliced
-    ensures { λ r. ⌜ (r ≡ sliceOf schemeOf job (now (assoc .entry)) (now (text .entry)) (now (out .entry)) budget) × (now (out .exit) ≡ outOf schemeOf job (now (assoc .entry)) (now (text .entry)) (now (out .entry)) budget) ⌝ }
+    ensures { λ r. ⌜ Slices schemeOf job (now (assoc .entry)) (now (text .entry)) (now (out .entry)) budget r (now (out .exit)) ⌝ }
 {
     let refused = refusal(job, assoc, text, &out[..]);
     if refused != 0 {

@@ -2,7 +2,8 @@
 ghost use mathlib.Core.Path.{_≡_};
 ghost use lib.ListN.{length};
 ghost use Rattle.instances.specs.Schemes.{schemeOf};
-ghost use Rattle.isap.specs.Whole.{outRefusal, wholeRefusal, sealOf, sealOut, sealTag, openOf, openOut};
+ghost use Rattle.isap.specs.Whole.{outRefusal, wholeRefusal};
+ghost use Rattle.isap.specs.Statements.{Seals, Opens};
 use crate::Answer;
 use crate::beginnings::begin_open;
 use crate::beginnings::begin_seal;
@@ -62,7 +63,7 @@ pub fn seal(
     out: &mut [u8],
     tag: &mut [u8],
 ) -> Answer
-    ensures { λ r. ⌜ (r ≡ sealOf schemeOf instance (now (key .entry)) (now (nonce .entry)) (now (assoc .entry)) (now (text .entry)) (now (out .entry)) (now (tag .entry))) × (now (out .exit) ≡ sealOut schemeOf instance (now (key .entry)) (now (nonce .entry)) (now (assoc .entry)) (now (text .entry)) (now (out .entry)) (now (tag .entry))) × (now (tag .exit) ≡ sealTag schemeOf instance (now (key .entry)) (now (nonce .entry)) (now (assoc .entry)) (now (text .entry)) (now (out .entry)) (now (tag .entry))) ⌝ }
+    ensures { λ r. ⌜ Seals schemeOf instance (now (key .entry)) (now (nonce .entry)) (now (assoc .entry)) (now (text .entry)) (now (out .entry)) (now (tag .entry)) r (now (out .exit)) (now (tag .exit)) ⌝ }
 {
     let a = assoc.len();
     let m = text.len();
@@ -95,7 +96,7 @@ pub fn open(
     tag: &[u8],
     out: &mut [u8],
 ) -> Answer
-    ensures { λ r. ⌜ (r ≡ openOf schemeOf instance (now (key .entry)) (now (nonce .entry)) (now (assoc .entry)) (now (text .entry)) (now (tag .entry)) (now (out .entry))) × (now (out .exit) ≡ openOut schemeOf instance (now (key .entry)) (now (nonce .entry)) (now (assoc .entry)) (now (text .entry)) (now (tag .entry)) (now (out .entry))) ⌝ }
+    ensures { λ r. ⌜ Opens schemeOf instance (now (key .entry)) (now (nonce .entry)) (now (assoc .entry)) (now (text .entry)) (now (tag .entry)) (now (out .entry)) r (now (out .exit)) ⌝ }
 {
     let a = assoc.len();
     let m = text.len();

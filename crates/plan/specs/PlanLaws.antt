@@ -1,6 +1,6 @@
--- Every plan is within the largest counts.
+-- Two plans that the statement allows are equal, and every plan is within the largest counts.
 -- Assumes nothing.
-use mathlib.Core.Path.{_≡_, refl}
+use mathlib.Core.Path.{_≡_, refl, sym, _∙_}
 use mathlib.Core.Bool.{Bool, true, false}
 use Prim.Native.Nat.{ℕ, _≤_}
 use native.Mathlib.Omega.{arith}
@@ -11,7 +11,10 @@ use Rattle.scheme.specs.Scheme.{allCount}
 use Rattle.instances.specs.Schemes.{known, schemeOf}
 use Rattle.instances.specs.Limits.{mostAssoc, mostText, mostVerify, mostRounds, verification-most, total-most}
 use Rattle.plan.specs.declared.Planned.{Planned}
-use Rattle.plan.specs.Planned.{unplanned, planOf}
+use Rattle.plan.specs.Planned.{unplanned, planOf, Plans}
+
+pub one-plan : (i a m : ℕ) (r r′ : Planned) → Plans i a m r → Plans i a m r′ → r ≡ r′
+one-plan i a m r r′ h k = h ∙ sym k
 
 -- what a plan answers, whatever it is asked
 pub record Within (r : Planned) : Type 0 where

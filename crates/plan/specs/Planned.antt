@@ -1,5 +1,6 @@
 -- What the counting leaf promises: a plan or its refusal, and a place as the code has it.
 -- Assumes nothing.
+use mathlib.Core.Path.{_≡_}
 use mathlib.Core.Bool.{Bool, false}
 use Prim.Native.Nat.{ℕ, _+_, _≤_, _<_}
 use lib.Dec.{leb}
@@ -25,6 +26,10 @@ planOf i a m =
     (unplanned 5))
     (unplanned 4))
     (unplanned 1)
+
+-- what `plan` promises
+abbrev pub Plans : (i a m : ℕ) → Planned → Type 0
+Plans i a m r = r ≡ planOf i a m
 
 -- a place as the code has it
 abbrev pub placed : places.Place → Place

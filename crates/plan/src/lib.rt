@@ -21,7 +21,7 @@ pub use shapes::key_bytes;
 pub use shapes::parts_of;
 pub use shapes::rounds_at;
 ghost use mathlib.Core.Path.{_≡_};
-ghost use Rattle.plan.specs.Planned.{planOf, unplanned};
+ghost use Rattle.plan.specs.Planned.{Plans, unplanned};
 
 // Document 01's limits in bytes, which the definitions have as `mostAssoc` and `mostText`.
 pub const MOST_ASSOC: u32 = 256;
@@ -46,7 +46,7 @@ fn refused(number: u32) -> Planned
 }
 
 pub fn plan(instance: u32, a: u32, m: u32) -> Planned
-    ensures { λ r. ⌜ r ≡ planOf instance a m ⌝ }
+    ensures { λ r. ⌜ Plans instance a m r ⌝ }
 {
     if !is_known(instance) {
         return refused(1);
