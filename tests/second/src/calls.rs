@@ -29,8 +29,8 @@ pub fn refusal(instance: u32, l: &Lengths) -> Option<u32> {
         l.nonce != 16,
         l.assoc > 256,
         l.text > 4096,
-        l.out.is_some_and(|length| length != l.text),
-        l.tag.is_some_and(|length| length != 16),
+        l.out.unwrap_or(l.text) != l.text,
+        l.tag.unwrap_or(16) != 16,
     ];
     (1..).zip(applies).find(|(_, applies)| *applies).map(|(number, _)| number)
 }
@@ -51,8 +51,9 @@ fn number_of(record: &Record) -> u32 {
 
 /// A slice of a record: the number and the rounds. The record and the output become what they are after it.
 pub fn slice(record: &mut Record, assoc: &[u8], text: &[u8], out: &mut [u8], budget: u32) -> (u32, u32) {
-    let Some(places) = standing(record) else {
-        return (CANNOT_STAND, 0);
+    let places = match standing(record) {
+        Some(places) => places,
+        None => return (CANNOT_STAND, 0),
     };
     if record.ending != UNENDED {
         return (HAS_ENDED, 0);

@@ -15,16 +15,6 @@ pub struct Instance {
 }
 
 impl Instance {
-    const fn of_ascon(s_b: usize, s_e: usize) -> Self {
-        let (bytes, block) = (ascon::BYTES, 64 / 8);
-        Instance { bytes, block, s_h: 12, s_b, s_e, s_k: 12, most: ascon::MOST_ROUNDS, round: ascon::round }
-    }
-
-    const fn of_keccak(s_h: usize, s_b: usize, s_e: usize, s_k: usize) -> Self {
-        let (bytes, block) = (keccak::BYTES, 144 / 8);
-        Instance { bytes, block, s_h, s_b, s_e, s_k, most: keccak::MOST_ROUNDS, round: keccak::round }
-    }
-
     /// Round `k` of a call of `rounds` rounds, which are the last ones that the permutation has.
     pub fn round(&self, state: &mut [u8], rounds: usize, k: usize) {
         (self.round)(state, self.most - rounds + k);
@@ -40,12 +30,18 @@ impl Instance {
     }
 }
 
+// The other two instances differ from these in round counts alone.
+const A_128: Instance =
+    Instance { bytes: ascon::BYTES, block: 64 / 8, s_h: 12, s_b: 12, s_e: 12, s_k: 12, most: ascon::MOST_ROUNDS, round: ascon::round };
+const K_128: Instance =
+    Instance { bytes: keccak::BYTES, block: 144 / 8, s_h: 20, s_b: 12, s_e: 12, s_k: 12, most: keccak::MOST_ROUNDS, round: keccak::round };
+
 /// ISAP-A-128a, ISAP-A-128, ISAP-K-128a, ISAP-K-128: instances 1 to 4.
 static INSTANCES: [Instance; 4] = [
-    Instance::of_ascon(1, 6),
-    Instance::of_ascon(12, 12),
-    Instance::of_keccak(16, 1, 8, 8),
-    Instance::of_keccak(20, 12, 12, 12),
+    Instance { s_b: 1, s_e: 6, ..A_128 },
+    A_128,
+    Instance { s_h: 16, s_b: 1, s_e: 8, s_k: 8, ..K_128 },
+    K_128,
 ];
 
 /// Instance `number`, which is 1 to 4.

@@ -1,8 +1,6 @@
 //! Keccak-p[400] (FIPS 202, sections 3.2 and 3.3; document 001, Appendix A): theta, rho and pi bit by bit. They are linear, so a round
 //! looks up what they make of each byte of the state and xors it together; chi and iota work on the bytes.
 
-use std::sync::OnceLock;
-
 pub const BYTES: usize = 50;
 pub const MOST_ROUNDS: usize = 20;
 const WIDTH: usize = 16;
@@ -66,19 +64,16 @@ fn xor_into(a: &mut Bytes, b: &Bytes) {
 }
 
 /// For each byte of the state and each value of it what theta, rho and pi make of it alone, all other bytes being zero.
-fn images() -> &'static Vec<[Bytes; 256]> {
-    static IMAGES: OnceLock<Vec<[Bytes; 256]>> = OnceLock::new();
-    IMAGES.get_or_init(|| {
-        let mut all = vec![[[0; BYTES]; 256]; BYTES];
-        for (i, of_byte) in all.iter_mut().enumerate() {
-            for value in 1..256usize {
-                let lowest = value.trailing_zeros() as usize;
-                of_byte[value] = of_byte[value & (value - 1)];
-                xor_into(&mut of_byte[value], &image(8 * i + lowest));
-            }
+fn images() -> Vec<[Bytes; 256]> {
+    let mut all = vec![[[0; BYTES]; 256]; BYTES];
+    for (i, of_byte) in all.iter_mut().enumerate() {
+        for value in 1..256usize {
+            let lowest = value.trailing_zeros() as usize;
+            of_byte[value] = of_byte[value & (value - 1)];
+            xor_into(&mut of_byte[value], &image(8 * i + lowest));
         }
-        all
-    })
+    }
+    all
 }
 
 /// rc(t), Algorithm 5.
@@ -94,15 +89,16 @@ fn rc(t: usize) -> bool {
     register[0]
 }
 
-/// The two bytes of lane (0, 0) into which iota of round `index` goes.
-fn constants() -> &'static [[u8; 2]; MOST_ROUNDS] {
-    static CONSTANTS: OnceLock<[[u8; 2]; MOST_ROUNDS]> = OnceLock::new();
-    CONSTANTS.get_or_init(|| {
-        std::array::from_fn(|index| {
-            let lane = (0..=4).fold(0u16, |lane, j| lane | (rc(j + 7 * index) as u16) << ((1 << j) - 1));
-            lane.to_le_bytes()
-        })
-    })
+/// What iota of round `index` adds to the two bytes of lane (0, 0).
+fn constant(index: usize) -> [u8; 2] {
+    let lane = (0..=4).fold(0u16, |lane, j| lane | (rc(j + 7 * index) as u16) << ((1 << j) - 1));
+    lane.to_le_bytes()
+}
+
+// Both tables, computed once in each thread.
+thread_local! {
+    static IMAGES: Vec<[Bytes; 256]> = images();
+    static CONSTANTS: [[u8; 2]; MOST_ROUNDS] = std::array::from_fn(constant);
 }
 
 /// A row has ten bytes, and the next lane's byte stands two further on.
@@ -117,11 +113,13 @@ fn chi(a: &Bytes, new: &mut [u8]) {
 /// Round `index` of the twenty, on the first 50 bytes.
 pub fn round(state: &mut [u8], index: usize) {
     let mut mixed = [0; BYTES];
-    for (of_byte, value) in images().iter().zip(state.iter()) {
-        xor_into(&mut mixed, &of_byte[*value as usize]);
-    }
+    IMAGES.with(|images| {
+        for (of_byte, value) in images.iter().zip(state.iter()) {
+            xor_into(&mut mixed, &of_byte[*value as usize]);
+        }
+    });
     chi(&mixed, &mut state[..BYTES]);
-    for (byte, constant) in state.iter_mut().zip(constants()[index]) {
+    for (byte, constant) in state.iter_mut().zip(CONSTANTS.with(|constants| constants[index])) {
         *byte ^= constant;
     }
 }

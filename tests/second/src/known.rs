@@ -32,9 +32,7 @@ pub fn sixteen(bytes: &[u8]) -> [u8; 16] {
 /// The lines of a case, `NAME = VALUE`, in the order in which the files have them.
 fn parsed(number: u32, case: &str) -> Known {
     let values: Vec<&str> = case.lines().map(|line| line.split_once(" =").expect("NAME = VALUE").1.trim()).collect();
-    let [count, key, nonce, text, assoc, sealed] = values[..] else {
-        panic!("six lines in a case");
-    };
+    let [count, key, nonce, text, assoc, sealed]: [&str; 6] = values.try_into().expect("six lines in a case");
     let (key, nonce) = (sixteen(&unhex(key)), sixteen(&unhex(nonce)));
     let sealed = unhex(sealed);
     let (ciphertext, tag) = sealed.split_at(sealed.len() - 16);
@@ -63,13 +61,13 @@ fn both_ways(case: &Known, given: &Given, direction: u32, tag: [u8; 16], rounds:
 
 fn sealed(case: &Known, rounds: usize) -> bool {
     let left = both_ways(case, &case.given, SEALING, [0; 16], rounds);
-    left.is_some_and(|(number, last)| number == ENDED_WELL && last.out == case.ciphertext && last.record.tag == case.tag)
+    matches!(left, Some((number, last)) if number == ENDED_WELL && last.out == case.ciphertext && last.record.tag == case.tag)
 }
 
 fn opened(case: &Known, tag: [u8; 16], rounds: usize, expected: u32, out: &[u8]) -> bool {
     let given = Given { text: case.ciphertext.clone(), ..case.given.clone() };
     let left = both_ways(case, &given, OPENING, tag, rounds);
-    left.is_some_and(|(number, last)| number == expected && last.out == out)
+    matches!(left, Some((number, last)) if number == expected && last.out == out)
 }
 
 /// What fails of a case, by name.

@@ -15,9 +15,7 @@ fn bytes(word: &str) -> Vec<u8> {
 /// Whether the line's ciphertext and tag are those that the second program makes.
 fn agrees(line: &str) -> bool {
     let words: Vec<&str> = line.split(' ').collect();
-    let [instance, key, nonce, assoc, text, sealed] = words[..] else {
-        panic!("six words in a line");
-    };
+    let [instance, key, nonce, assoc, text, sealed]: [&str; 6] = words.try_into().expect("six words in a line");
     let instance = instance.parse().expect("an instance");
     let given = Given { instance, key: sixteen(&unhex(key)), nonce: sixteen(&unhex(nonce)), assoc: bytes(assoc), text: bytes(text) };
     let made = ended(&given, SEALING, [0; 16], &vec![0; given.text.len()]);

@@ -39,7 +39,7 @@ fn shape(i: &Instance, part: Part, assoc: usize, text: usize) -> (usize, usize) 
     match part {
         KeyStart | KeyEnd => (unless_empty(1), i.s_k),
         KeyBits => (unless_empty(127), i.s_b),
-        Text => (text.div_ceil(i.block), i.s_e),
+        Text => ((text + i.block - 1) / i.block, i.s_e),
         MacStart | Tag => (1, i.s_h),
         Assoc => (assoc / i.block + 1, i.s_h),
         Cipher => (text / i.block + 1, i.s_h),
