@@ -3,7 +3,7 @@
 -- Assumes nothing.
 use mathlib.Core.Path.{_≡_, refl, sym, ap, ap₂, _∙_}
 use mathlib.Core.List.{List, [], _∷_, _++_}
-use Prim.Native.Nat.{ℕ, zero, suc, _+_, _*_, _≤_, _-_}
+use Prim.Native.Nat.{ℕ, zero, suc, _+_, _*_, _≤_}
 use native.Mathlib.Nat.{add-suc, zero-mul, suc-mul, add-zero, le-trans, le-add-right, not-suc-le-zero}
 use native.Mathlib.Omega.{arith}
 use lib.ListN.{length, getD, set, take, drop, length-append, length-drop}
@@ -92,7 +92,3 @@ unfolding parts
 parts-take zero m s = ap (λ (n : ℕ). take n s) (sym (zero-mul m))
 parts-take (suc k) m s =
     ap (λ (r : List ℕ). r ++ take m (drop (k * m) s)) (parts-take k m s) ∙ sym (take-add (k * m) m s) ∙ ap (λ (n : ℕ). take n s) (sym (suc-mul k m))
-
--- the first b elements of what follows `at`, cut where the list ends
-pub part-front : (s : List ℕ) (at b : ℕ) → at + b ≤ length s → take b (take (length s - at) (drop at s)) ≡ take b (drop at s)
-part-front s at b h = take-take b (length s - at) (drop at s) (omega arith)

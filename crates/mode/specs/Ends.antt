@@ -207,6 +207,21 @@ module _ (p : Params) (l : LawfulParams p) where
         (absorb-run (callOf (ciphers p x)) t ss o g (xorAt (p .n - 1) 1) (padded (p .b) (cipherOf x o)) (λ i s h. w-ciphers p l x hk hn i s t ss o g h)
         (length (x .text) / p .b) s h (length-xorAt (p .n - 1) 1 s ∙ h)))
 
+    -- up to its re-keying: the state that is then set aside
+    pub hashing-end : (s t ss o g : List ℕ) → length s ≡ p .n → length (cipherOf x o) ≡ length (x .text)
+        → run (row (macStart p x ∷ assocs p x ∷ ciphers p x ∷ [])) (machine (s ++ t) ss o g)
+        ≡ machine (hashed p (x .nonce) (x .assoc) (cipherOf x o) ++ t) ss o g
+    unfolding partRow macStart part hashed
+    hashing-end s t ss o g h e =
+        let s₀ = perm p (p .sH) (x .nonce ++ iv p 1) in
+        let h₀ : length s₀ ≡ p .n = perm-long p l (p .sH) (x .nonce ++ iv p 1) (length-start p l (x .nonce) 1 hn) in
+        let s₁ = absorb p (paddedBlocks p (x .assoc)) s₀ in
+        let h₁ : length s₁ ≡ p .n = absorb-long p l (paddedBlocks p (x .assoc)) s₀ (padded-short p l (x .assoc)) h₀ in
+        and-then (macStart p x) (assocs p x ∷ ciphers p x ∷ []) _
+        (one-call (callOf (macStart p x)) (machine (s ++ t) ss o g) ∙ w-macStart p l x hk hn 0 s t ss o g h)
+        (and-then (assocs p x) (ciphers p x ∷ []) _ (r-assocs s₀ t ss o g h₀)
+        (and-then (ciphers p x) [] _ (r-ciphers s₁ t ss o g h₁ e) (done _)))
+
     r-macKeyBits : (s t u v o g : List ℕ) → length s ≡ p .n → length u ≡ p .n
         → run (partRow (macKeyBits p x)) (machine (s ++ t) (u ++ v) o g) ≡ machine (absorbBits p (take 127 (bitsOf (take 16 u))) s ++ t) (u ++ v) o g
     unfolding partRow macKeyBits part bitAt

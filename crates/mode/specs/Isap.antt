@@ -23,6 +23,7 @@ use Rattle.mode.specs.Params.{Params, LawfulParams}
 use Rattle.mode.specs.Paper.{isapEnc, isapMac, seal, unseal}
 use Rattle.mode.specs.PaperLaws.{enc-length, enc-twice, length-mac, open-sealed}
 use Rattle.mode.specs.Parts.{part, keyStart, keyBits, keyEnd, written, texts, macStart, assocs, ciphers, setAside, macKeyStart, macKeyBits, macKeyEnd, takeBack, tagged, macEnd, encParts, macParts, sealingCourse, openingCourse, course}
+use Rattle.mode.specs.Touches.{mac-keeps}
 use Rattle.mode.specs.Counts.{verifyRounds, encryptRounds, encShapes, macShapes, frontShapes, backShapes, frontCount, backCount, shapes-front, shapes-back, front-count, back-count, front-some, back-some, front-pos, front-rounds, back-rounds, lawful, all-count}
 use Rattle.mode.specs.Theorems.{Ready, sealing-accepted, sealing-out, sealing-tag, opening-out, opening-is-paper}
 use Rattle.mode.specs.Kept.{Given, course-kept}
@@ -45,8 +46,11 @@ isapScheme p =
 -- ---- the output keeps its length
 
 module _ (p : Params) (x : Input) where
+  abbrev Kept : List ℕ → Type 0
+  Kept o = length o ≡ length (x .text)
+
   abbrev Long : Machine → Type 0
-  Long k = length (k .out) ≡ length (x .text)
+  Long k = Kept (k .out)
 
   -- a block of output at its place; past the end there is none
   written-long : (i : ℕ) (s o : List ℕ) → length o ≡ length (x .text)
@@ -77,63 +81,18 @@ module _ (p : Params) (x : Input) where
     ),
   )
 
-  mac-long : KeepsParts Long (macParts p x)
-  unfolding KeepsParts macStart assocs ciphers macKeyStart macKeyBits macKeyEnd macEnd part setAside takeBack tagged
-  mac-long = (
-    record { enter = λ i k e. e; turn = λ i k e. e; leave = λ i k e. e },
-    (
-      record { enter = λ i k e. e; turn = λ i k e. e; leave = λ i k e. e },
-      (
-        record { enter = λ i k e. e; turn = λ i k e. e; leave = λ i k e. e },
-        (
-          record { enter = λ i k e. e; turn = λ i k e. e; leave = λ i k e. e },
-          (
-            record { enter = λ i k e. e; turn = λ i k e. e; leave = λ i k e. e },
-            (
-              record { enter = λ i k e. e; turn = λ i k e. e; leave = λ i k e. e },
-              (record { enter = λ i k e. e; turn = λ i k e. e; leave = λ i k e. e }, tt),
-            ),
-          ),
-        ),
-      ),
-    ),
-  )
-
   course-long : KeepsCourse Long (course p x)
   unfolding course sealingCourse openingCourse KeepsParts
   course-long = go (x .sealing)
     where
       go : (b : Bool) → KeepsCourse Long (pick b (sealingCourse p x) (openingCourse p x))
-      go true = record { front = keeps-parts Long (encParts p x) (macParts p x) enc-long mac-long; back = tt }
-      go false = record { front = mac-long; back = enc-long }
-
-  -- the MAC writes nothing
-  mac-out : (o : List ℕ) → KeepsParts (λ (k : Machine). k .out ≡ o) (macParts p x)
-  unfolding KeepsParts macStart assocs ciphers macKeyStart macKeyBits macKeyEnd macEnd part setAside takeBack tagged
-  mac-out o = (
-    record { enter = λ i k e. e; turn = λ i k e. e; leave = λ i k e. e },
-    (
-      record { enter = λ i k e. e; turn = λ i k e. e; leave = λ i k e. e },
-      (
-        record { enter = λ i k e. e; turn = λ i k e. e; leave = λ i k e. e },
-        (
-          record { enter = λ i k e. e; turn = λ i k e. e; leave = λ i k e. e },
-          (
-            record { enter = λ i k e. e; turn = λ i k e. e; leave = λ i k e. e },
-            (
-              record { enter = λ i k e. e; turn = λ i k e. e; leave = λ i k e. e },
-              (record { enter = λ i k e. e; turn = λ i k e. e; leave = λ i k e. e }, tt),
-            ),
-          ),
-        ),
-      ),
-    ),
-  )
+      go true = record { front = keeps-parts Long (encParts p x) (macParts p x) enc-long (mac-keeps p x Kept); back = tt }
+      go false = record { front = mac-keeps p x Kept; back = enc-long }
 
   opening-untouched : x .sealing ≡ false → (o : List ℕ) → KeepsParts (λ (k : Machine). k .out ≡ o) (course p x .front)
   unfolding course openingCourse
   opening-untouched d o =
-      subst (λ (b : Bool). KeepsParts (λ (k : Machine). k .out ≡ o) (pick b (sealingCourse p x) (openingCourse p x) .front)) (sym d) (mac-out o)
+      subst (λ (b : Bool). KeepsParts (λ (k : Machine). k .out ≡ o) (pick b (sealingCourse p x) (openingCourse p x) .front)) (sym d) (mac-keeps p x (λ (u : List ℕ). u ≡ o))
 
   -- a sealing has nothing to decide
   pub sealing-accepts : x .sealing ≡ true → (m : Machine) → course p x .accepts m ≡ true

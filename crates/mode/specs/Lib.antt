@@ -7,15 +7,14 @@ pub mod Parts
 pub mod Counts
 pub mod Calls
 pub mod Ends
+pub mod Touches
 pub mod Theorems
 pub mod Kept
 pub mod Beyond
 pub mod Instances
 pub mod Isap
 pub mod Checked
-pub mod Touches
 pub mod Between
-pub mod Hashing
 pub mod Outputs
 pub mod Aside
 pub mod Sessions

@@ -25,7 +25,7 @@ use Rattle.mode.specs.Ends.{encState, encState-long, enc-end}
 use Rattle.mode.specs.Theorems.{Ready}
 use Rattle.mode.specs.Between.{asideAfter, macState}
 use Rattle.mode.specs.Touches.{hashing, macRekeying, enc-keeps}
-use Rattle.mode.specs.Hashing.{hashing-end}
+use Rattle.mode.specs.Ends.{hashing-end}
 use Rattle.mode.specs.Aside.{tag-until, SessionOf, session-of}
 
 module _ (p : Params) (l : LawfulParams p) (x : Input) where

@@ -23,6 +23,7 @@ use Rattle.mode.specs.Params.{Params, LawfulParams}
 use Rattle.scheme.specs.Machine.{Opened.plaintext, Opened.refused, Machine, Input, cipherOf, machine}
 use Rattle.mode.specs.Paper.{isapEnc, hashed, finished, isapMac, seal, unseal}
 use Rattle.mode.specs.PaperLaws.{enc-length, hashed-long, finished-long}
+use Rattle.mode.specs.Touches.{mac-keeps}
 use Rattle.mode.specs.Parts.{tagOf, part, macStart, assocs, ciphers, setAside, macKeyStart, macKeyBits, macKeyEnd, takeBack, tagged, macEnd, encParts, macParts, sealingCourse, openingCourse, course}
 use Rattle.mode.specs.Counts.{verifyRounds, encryptRounds, frontCount, front-rounds, back-rounds, lawful, all-count}
 use Rattle.mode.specs.Ends.{encState, encState-long, mac-end, enc-end}
@@ -178,30 +179,8 @@ module _ (p : Params) (l : LawfulParams p) (x : Input) (hk : length (x .key) ≡
 
       -- ---- until the decision, and after a refusal for good, the output is as it was
 
-      keeps-out : KeepsParts (λ (k : Machine). k .out ≡ m .out) (macParts p x)
-      unfolding KeepsParts macStart assocs ciphers macKeyStart macKeyBits macKeyEnd macEnd part setAside takeBack tagged
-      keeps-out = (
-        record { enter = λ i k e. e; turn = λ i k e. e; leave = λ i k e. e },
-        (
-          record { enter = λ i k e. e; turn = λ i k e. e; leave = λ i k e. e },
-          (
-            record { enter = λ i k e. e; turn = λ i k e. e; leave = λ i k e. e },
-            (
-              record { enter = λ i k e. e; turn = λ i k e. e; leave = λ i k e. e },
-              (
-                record { enter = λ i k e. e; turn = λ i k e. e; leave = λ i k e. e },
-                (
-                  record { enter = λ i k e. e; turn = λ i k e. e; leave = λ i k e. e },
-                  (record { enter = λ i k e. e; turn = λ i k e. e; leave = λ i k e. e }, tt),
-                ),
-              ),
-            ),
-          ),
-        ),
-      )
-
       mac-out : (n : ℕ) → stopped (row (macParts p x)) n m .out ≡ m .out
-      mac-out n = keeps-stopped (λ (k : Machine). k .out ≡ m .out) (row (macParts p x)) (keeps-row (λ (k : Machine). k .out ≡ m .out) (macParts p x) keeps-out) n m refl
+      mac-out n = keeps-stopped (λ (k : Machine). k .out ≡ m .out) (row (macParts p x)) (keeps-row (λ (k : Machine). k .out ≡ m .out) (macParts p x) (mac-keeps p x (λ (o : List ℕ). o ≡ m .out))) n m refl
 
       pub untouched-before : (n : ℕ) → n ≤ verifyRounds p (length (x .assoc)) (length (x .text)) → halted (course p x) n m .out ≡ m .out
       unfolding frontCount openingCourse
