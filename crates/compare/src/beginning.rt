@@ -9,6 +9,7 @@ use crate::strings::first;
 use crate::verdict;
 use crate::verdict::NUMBER;
 use crate::verdict::RECORD;
+use crate::verdict::ROUNDS;
 use isap::Begun;
 
 // The tag that is lent: 16 bytes from the file, with zeros behind them.
@@ -64,7 +65,8 @@ pub fn case(sliced: bool) -> Went {
     reading::string(&mut bytes);
     let job = begun.job;
     let numbered = verdict::then(verdict::no_difference(), begun.number == number, NUMBER, 0);
-    let verdict = verdict::then(numbered, same_record(job, &bytes), RECORD, 0);
+    let idle = verdict::then(numbered, begun.rounds == 0, ROUNDS, 0);
+    let verdict = verdict::then(idle, same_record(job, &bytes), RECORD, 0);
     let start = Went {
         job,
         verdict,

@@ -7,6 +7,7 @@ use native.Mathlib.Omega.{arith}
 use borrow.Author.Needs.{needs}
 use borrow.Author.Tests.{eq-eqb, ne-eqb}
 use Rattle.plan.specs.Kinds.{macCalls}
+use Rattle.instances.specs.Limits.{mostAssoc, mostText}
 use Rattle.plan.proofs.Counting.{blocks-within}
 use Rattle.plan.proofs.kinds.mac_calls.Statement.{statement}
 use Rattle.plan.proofs.kinds.mac_calls.Tie as tie
@@ -20,7 +21,7 @@ returns c =
     let a = c .before .before .before in
     let q = c .before .before .numbers-of in (
       simp (eq-eqb _ 5 (c .before .if1 .taken)) (ap (λ (b : ℕ). a .args .a / b + 1) (q .ensures .b)),
-      omega (arith, blocks-within (a .args .a) (q .result .b) 256 (a .pre .0) (q .ensures .blockLeast)),
+      omega (arith, blocks-within (a .args .a) (q .result .b) mostAssoc (a .pre .0) (q .ensures .blockLeast)),
     )
 
 add-result-2 : tie.Need-add-result-2
@@ -33,7 +34,7 @@ returns-2 c =
     let a = t .before .before .before in
     let q = t .before .before .numbers-of in (
       simp (ne-eqb _ 5 (t .before .if1 .left), eq-eqb _ 6 (t .if2 .taken)) (ap (λ (b : ℕ). a .args .m / b + 1) (q .ensures .b)),
-      omega (arith, blocks-within (a .args .m) (q .result .b) 4096 (a .pre .1) (q .ensures .blockLeast)),
+      omega (arith, blocks-within (a .args .m) (q .result .b) mostText (a .pre .1) (q .ensures .blockLeast)),
     )
 
 returns-3 : tie.Need-returns-3
