@@ -8,7 +8,7 @@ use native.Mathlib.Nat.{suc-mul}
 use native.Mathlib.Omega.{arith}
 use lib.Dec.{eqb}
 use borrow.Author.Tests.{eqb-true, eq-eqb}
-use lib.ListN.{length, getD, take, drop, set, length-append, length-set, length-drop, length-take}
+use lib.ListN.{length, getD, drop, set, length-append, length-set, length-drop, length-take}
 use lib.Seq.{drop-drop, set-append-left, drop-append-le}
 use lib.Bits.{bitXor, xor-lt}
 use Rattle.bits.specs.Pick.{pick}

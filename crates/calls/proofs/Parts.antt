@@ -3,7 +3,7 @@
 use mathlib.Core.Path.{_≡_, refl, sym, ap, ap₂, _∙_, subst}
 use mathlib.Core.Bool.{Bool, true, false}
 use mathlib.Core.List.{List, []}
-use Prim.Native.Nat.{ℕ, _+_, _-_, _%_, _≤_, _<_}
+use Prim.Native.Nat.{ℕ, _+_, _-_, _≤_, _<_}
 use native.Mathlib.Omega.{arith}
 use lib.ListN.{length, take}
 use Rattle.bits.specs.Pick.{pick}
@@ -11,7 +11,7 @@ use Rattle.bits.specs.Every.{upto-at}
 use Rattle.bits.specs.Run.{turns, run}
 use Rattle.bits.specs.Strings.{same}
 use Rattle.stopping.specs.Parts.{Shape, Part}
-use Rattle.stopping.specs.Places.{partAt, shapeAt}
+use Rattle.stopping.specs.Places.{partAt}
 use Rattle.stopping.specs.Course.{parts}
 use Rattle.stopping.specs.Wholes.{wholes}
 use Rattle.scheme.specs.Machine.{Machine, Input, machine, given, onState}

@@ -1,14 +1,16 @@
 -- Document 01's limits, each once, and the largest counts within them.
 -- Assumes nothing.
-use mathlib.Core.Path.{_≡_, refl, ap₂, _∙_}
+use mathlib.Core.Path.{_≡_, refl}
 use mathlib.Core.Bool.{Bool, true, false}
 use Prim.Native.Nat.{ℕ, zero, suc, _+_, _/_, _≤_}
 use native.Mathlib.Omega.{arith}
 use Rattle.scheme.specs.Machine.{unlessEmpty}
 use Rattle.scheme.specs.Scheme.{allCount}
 use Rattle.mode.specs.Paper.{blocks}
-use Rattle.mode.specs.Instances.{isapA128a, isapA128, isapK128a, isapK128, paramsOf, by-instance}
-use Rattle.mode.specs.Counts.{rekeyRounds, verifyRounds, encryptRounds, frontCount, backCount, all-count}
+use Rattle.mode.specs.InstanceLaws.{by-instance}
+use Rattle.mode.specs.Instances.{isapA128a, isapA128, isapK128a, isapK128, paramsOf}
+use Rattle.mode.specs.CountLaws.{all-count}
+use Rattle.mode.specs.Counts.{rekeyRounds, verifyRounds, encryptRounds, frontCount, backCount}
 use Rattle.mode.specs.Isap.{isapScheme}
 use Rattle.instances.specs.Schemes.{schemeOf}
 

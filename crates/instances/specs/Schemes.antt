@@ -7,7 +7,8 @@ use native.Mathlib.Omega.{arith}
 use lib.Dec.{leb}
 use Rattle.scheme.specs.Scheme.{Scheme}
 use Rattle.scheme.specs.Lawful.{LawfulScheme}
-use Rattle.mode.specs.Instances.{isapA128a, isapA128, isapK128a, isapK128, paramsOf, by-instance, lawful-instance}
+use Rattle.mode.specs.InstanceLaws.{by-instance, lawful-instance}
+use Rattle.mode.specs.Instances.{isapA128a, isapA128, isapK128a, isapK128, paramsOf}
 use Rattle.mode.specs.Isap.{isapScheme, lawful-isap}
 
 -- 1 to 4 are ISAP's

@@ -16,7 +16,7 @@ use Rattle.isap.specs.declared.Job.{Job}
 use Rattle.isap.specs.Records.{sealingOf, shapesOf, frontOf, backOf, totalOf, changed}
 use Rattle.isap.specs.Turns.{At, shapeHere}
 use Rattle.isap.specs.Sofar.{Fresh, fresh-at, Turned}
-use Rattle.isap.specs.Rows.{roundsAt, Row, Rowable, Many, Rows, row-upto, row-turned}
+use Rattle.isap.specs.Rows.{roundsAt, Row, Rowable, Rows, row-upto, row-turned}
 
 module _ (j : Job) where
   pub is-part : At schemeOf j (j .place) → j .place .part < partsOf (schemeOf (j .instance)) (sealingOf (j .direction))

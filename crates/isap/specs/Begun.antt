@@ -9,7 +9,7 @@ use native.Mathlib.Omega.{arith}
 use lib.Dec.{eqb, leb}
 use borrow.Author.Tests.{eqb-true, eqb-false, leb-true, eq-eqb, ne-eqb, le-leb}
 use Rattle.bits.specs.Pick.{pick}
-use Rattle.bits.specs.Every.{passes, and-left, and-right}
+use Rattle.bits.specs.Every.{passes}
 use Rattle.stopping.specs.Course.{endingOf}
 use Rattle.stopping.specs.Follows.{ends-true}
 use Rattle.scheme.specs.Scheme.{Scheme}

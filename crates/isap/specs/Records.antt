@@ -8,7 +8,7 @@ use Rattle.stopping.specs.Parts.{Shape}
 use Rattle.stopping.specs.Places.{placeOf}
 use Rattle.stopping.specs.Course.{Course, Core, steps}
 use Rattle.scheme.specs.Machine.{Machine, Input}
-use Rattle.scheme.specs.Scheme.{Scheme, allShapes, allCount}
+use Rattle.scheme.specs.Scheme.{Scheme, allShapes}
 use Rattle.plan.specs.declared.places.Place.{Place}
 use Rattle.plan.specs.Planned.{placed}
 use Rattle.isap.specs.declared.Job.{Job}

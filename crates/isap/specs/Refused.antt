@@ -6,7 +6,6 @@ use Prim.Native.Nat.{ℕ}
 use borrow.Author.Tests.{ne-eqb}
 use Rattle.scheme.specs.Scheme.{Scheme}
 use Rattle.isap.specs.declared.Job.{Job}
-use Rattle.isap.specs.declared.Begun.{Begun}
 use Rattle.isap.specs.Slices.{refusalOf, sliceOf, outOf}
 use Rattle.isap.specs.Beginnings.{noJob, begunOr}
 use Rattle.isap.specs.Whole.{refusalFor, sealOf, sealOut, sealTag, openOf, openOut}

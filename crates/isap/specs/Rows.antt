@@ -11,7 +11,7 @@ use lib.ListN.{length}
 use Rattle.stopping.specs.Parts.{Part, Shape}
 use Rattle.stopping.specs.Places.{place, placeOf, partAt}
 use Rattle.stopping.specs.Course.{Core, parts, standsAt, steps}
-use Rattle.stopping.specs.Wholes.{wholes, row-place, row-within, row-steps}
+use Rattle.stopping.specs.Wholes.{row-place, row-within, row-steps}
 use Rattle.scheme.specs.Machine.{Machine}
 use Rattle.scheme.specs.Scheme.{Scheme}
 use Rattle.scheme.specs.Calls.{Goes}

@@ -9,8 +9,8 @@ use native.Mathlib.Omega.{arith}
 use lib.ListN.{length}
 use borrow.Author.Tests.{eqb-true, leb-true, ne-eqb}
 use Rattle.bits.specs.Every.{passes-at}
-use Rattle.stopping.specs.Parts.{Shape}
-use Rattle.stopping.specs.Places.{placeOf, shapeAt, within-parts}
+use Rattle.stopping.specs.PlaceLaws.{within-parts}
+use Rattle.stopping.specs.Places.{placeOf, shapeAt}
 use Rattle.stopping.specs.Course.{Core, endingOf, steps}
 use Rattle.stopping.specs.Follows.{steps-add, steps-ended, total-ends}
 use Rattle.scheme.specs.Machine.{Machine}

@@ -12,7 +12,8 @@ use Rattle.bits.specs.Pick.{pick}
 use Rattle.bits.specs.Run.{turns}
 use Rattle.stopping.specs.Stopped.{Call, entered, left}
 use Rattle.stopping.specs.Parts.{Shape, EachSome, roundsIn, callOf}
-use Rattle.stopping.specs.Places.{Place, place, placeOf, partAt, callAt, shapeAt, shape-part, Inside, place-inside}
+use Rattle.stopping.specs.PlaceLaws.{shape-part, place-inside}
+use Rattle.stopping.specs.Places.{Place, place, placeOf, partAt, callAt, shapeAt}
 use Rattle.stopping.specs.Course.{Course, parts, frontRounds, backRounds, endingOf, coreAt, standsAt, steps, Lawful}
 use Rattle.stopping.specs.Chunks.{some, chunk}
 use Rattle.scheme.specs.Machine.{Machine, machine}
@@ -23,7 +24,7 @@ use Rattle.instances.specs.Limits.{mostAssoc, mostText}
 use Rattle.plan.specs.declared.places.Place as planned
 use Rattle.plan.specs.Planned.{placed}
 use Rattle.isap.specs.declared.Job.{Job}
-use Rattle.isap.specs.Records.{sealingOf, inputOf, machineOf, coreOf, courseOf, shapesOf, frontOf, backOf, totalOf, after, ran}
+use Rattle.isap.specs.Records.{sealingOf, inputOf, machineOf, coreOf, courseOf, shapesOf, frontOf, backOf, totalOf, ran}
 
 -- k rounds of a call from its round i on, with what goes with its first and its last
 unfoldable pub gone : {M : Type 0} → Call M → (i k : ℕ) → M → M

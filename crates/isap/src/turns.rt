@@ -1,7 +1,6 @@
 // Some rounds of the call at which a record stands.
 ghost use mathlib.Core.Path.{_≡_};
 ghost use Prim.Native.Nat.{_+_, _≤_};
-ghost use Rattle.stopping.specs.Course.{endingOf};
 ghost use Rattle.instances.specs.Schemes.{schemeOf};
 ghost use Rattle.isap.specs.Records.{changed as changedTo};
 ghost use Rattle.instances.specs.Limits.{mostRounds};

@@ -20,7 +20,8 @@ use Rattle.stopping.specs.Since.{stopped-parts, until-parts, since-first, until
 use Rattle.mode.specs.Params.{Params, LawfulParams}
 use Rattle.scheme.specs.Machine.{Machine, Input, machine}
 use Rattle.mode.specs.Parts.{part, macStart, assocs, ciphers, setAside, macKeyStart, macKeyBits, macKeyEnd, takeBack, tagged, macEnd, course}
-use Rattle.mode.specs.Counts.{rekeyRounds, verifyRounds, encryptRounds, frontCount, front-rounds, lawful}
+use Rattle.mode.specs.CountLaws.{front-rounds, lawful}
+use Rattle.mode.specs.Counts.{rekeyRounds, verifyRounds, encryptRounds, frontCount}
 use Rattle.mode.specs.Between.{hashRounds, asideAfter, macState}
 use Rattle.mode.specs.Touches.{hashing, macRekeying, macBits, hashing-keeps, macRekeying-keeps, macBits-keeps}
 

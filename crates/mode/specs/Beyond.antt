@@ -1,12 +1,12 @@
 -- What lies beyond the first n bytes of the state and of the session bytes is neither read nor changed: a job steps as if it were not there.
 -- Assumes nothing.
-use mathlib.Core.Path.{_≡_, refl, sym, ap, ap₂, _∙_}
+use mathlib.Core.Path.{_≡_, refl, ap, ap₂, _∙_}
 use mathlib.Core.Bool.{Bool, true, false}
-use mathlib.Core.List.{List, [], _∷_, _++_, append-assoc, append-nil}
+use mathlib.Core.List.{List, [], _++_}
 use Prim.Native.Nat.{ℕ, zero, suc, _+_, _-_, _*_, _≤_}
 use native.Mathlib.Omega.{arith}
-use lib.ListN.{length, take, drop, replicate, length-append, length-drop, length-replicate, drop-of-length-le}
-use lib.Seq.{take-at, drop-at, take-all, length-take-le, take-append-le, drop-append-le}
+use lib.ListN.{length, take, drop, replicate, length-append, length-drop, length-replicate}
+use lib.Seq.{length-take-le, take-append-le}
 use Rattle.bits.specs.Pick.{pick}
 use Rattle.bits.specs.Run.{front, length-once, front-within}
 use Rattle.bits.specs.Xors.{xors-front}

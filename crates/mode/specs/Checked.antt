@@ -13,7 +13,8 @@ use Rattle.stopping.specs.Parts.{row, total-row}
 use Rattle.mode.specs.Paper.{blocks}
 use Rattle.scheme.specs.Machine.{Input, unlessEmpty}
 use Rattle.mode.specs.Parts.{encParts, macParts}
-use Rattle.mode.specs.Counts.{rekeyRounds, verifyRounds, encryptRounds, rounds-mac, front-count, frontCount, frontShapes, shapes-mac, shapes-sealing}
+use Rattle.mode.specs.CountLaws.{rounds-mac, front-count, shapes-mac, shapes-sealing}
+use Rattle.mode.specs.Counts.{rekeyRounds, verifyRounds, encryptRounds, frontCount, frontShapes}
 use Rattle.mode.specs.Instances.{isapA128a, isapA128, isapK128a, isapK128, paramsOf}
 
 -- a line of the table: instance, a, m, V, E + V

@@ -2,8 +2,8 @@
 -- Assumes nothing.
 use mathlib.Core.Path.{_≡_, refl, sym, ap, ap₂, _∙_, subst}
 use mathlib.Core.Bool.{Bool, true, false}
-use mathlib.Core.List.{List, [], _∷_, _++_}
-use Prim.Native.Nat.{ℕ, _+_, _*_, _≤_, _<_}
+use mathlib.Core.List.{List, [], _++_}
+use Prim.Native.Nat.{ℕ, _+_, _*_}
 use native.Mathlib.Decide.{decLt}
 use native.Mathlib.Omega.{arith}
 use lib.ListN.{length, take, drop, length-append, length-take, length-drop}
@@ -22,11 +22,12 @@ use Rattle.bits.specs.StringLaws.{length-block, same-true}
 use Rattle.mode.specs.Params.{Params, LawfulParams}
 use Rattle.mode.specs.Paper.{isapEnc, isapMac, seal, unseal}
 use Rattle.mode.specs.PaperLaws.{enc-length, enc-twice, length-mac, open-sealed}
-use Rattle.mode.specs.Parts.{part, keyStart, keyBits, keyEnd, written, texts, macStart, assocs, ciphers, setAside, macKeyStart, macKeyBits, macKeyEnd, takeBack, tagged, macEnd, encParts, macParts, sealingCourse, openingCourse, course}
+use Rattle.mode.specs.Parts.{part, keyStart, keyBits, keyEnd, written, texts, encParts, macParts, sealingCourse, openingCourse, course}
 use Rattle.mode.specs.Touches.{mac-keeps}
-use Rattle.mode.specs.Counts.{verifyRounds, encryptRounds, encShapes, macShapes, frontShapes, backShapes, frontCount, backCount, shapes-front, shapes-back, front-count, back-count, front-some, back-some, front-pos, front-rounds, back-rounds, lawful, all-count}
+use Rattle.mode.specs.CountLaws.{shapes-front, shapes-back, front-count, back-count, front-some, back-some, front-pos, front-rounds, back-rounds, lawful, all-count}
+use Rattle.mode.specs.Counts.{verifyRounds, encryptRounds, encShapes, macShapes, frontShapes, backShapes, frontCount, backCount}
 use Rattle.mode.specs.Theorems.{Ready, sealing-accepted, sealing-out, sealing-tag, opening-out, opening-is-paper}
-use Rattle.mode.specs.Kept.{Given, course-kept}
+use Rattle.mode.specs.Kept.{course-kept}
 use Rattle.mode.specs.Beyond.{course-blind}
 
 unfoldable pub isapScheme : Params → Scheme

@@ -5,6 +5,7 @@ pub mod Paper
 pub mod PaperLaws
 pub mod Parts
 pub mod Counts
+pub mod CountLaws
 pub mod Calls
 pub mod Ends
 pub mod Touches
@@ -12,6 +13,7 @@ pub mod Theorems
 pub mod Kept
 pub mod Beyond
 pub mod Instances
+pub mod InstanceLaws
 pub mod Isap
 pub mod Checked
 pub mod Between

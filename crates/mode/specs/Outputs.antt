@@ -20,7 +20,8 @@ use Rattle.mode.specs.Params.{Params, LawfulParams}
 use Rattle.mode.specs.Paper.{blocks, isapEnc, seal}
 use Rattle.scheme.specs.Machine.{Machine, Input, unlessEmpty}
 use Rattle.mode.specs.Parts.{part, keyStart, keyBits, keyEnd, texts, macParts, sealingCourse, openingCourse, course}
-use Rattle.mode.specs.Counts.{rekeyRounds, verifyRounds, encryptRounds, frontShapes, rounds-mac, shapes-mac, front-some, lawful}
+use Rattle.mode.specs.CountLaws.{rounds-mac, shapes-mac, front-some, lawful}
+use Rattle.mode.specs.Counts.{rekeyRounds, verifyRounds, encryptRounds, frontShapes}
 use Rattle.mode.specs.Theorems.{Ready, sealing-accepted, sealing-out, opening-out}
 use Rattle.mode.specs.Between.{blocksWritten}
 use Rattle.mode.specs.Touches.{rekeying, rekeying-keeps, mac-keeps, texts-write}

@@ -1,9 +1,9 @@
 -- ISAP as a row of calls, by document 01's rule between two rounds: an output block is written with the last round of its own call; all
 -- else (xors, padding, domain bit, session key) goes with the round after it; the tag, or its comparison, with the last round of V.
 -- Assumes nothing.
-use mathlib.Core.Bool.{Bool, true}
+use mathlib.Core.Bool.{true}
 use mathlib.Core.List.{List, [], _∷_, _++_}
-use Prim.Native.Nat.{ℕ, zero, suc, _+_, _-_, _*_, _/_}
+use Prim.Native.Nat.{ℕ, _+_, _-_, _*_, _/_}
 use lib.ListN.{length, take, drop, replicate}
 use Rattle.bits.specs.Pick.{pick}
 use Rattle.bits.specs.Run.{front}

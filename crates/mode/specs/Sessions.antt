@@ -20,7 +20,8 @@ use Rattle.mode.specs.Paper.{isapEnc, hashed}
 use Rattle.mode.specs.PaperLaws.{enc-length, hashed-long}
 use Rattle.scheme.specs.Machine.{Machine, Input, cipherOf, machine}
 use Rattle.mode.specs.Parts.{macEnd, encParts, sealingCourse, openingCourse, course}
-use Rattle.mode.specs.Counts.{rekeyRounds, verifyRounds, encryptRounds, backShapes, frontCount, rounds-enc, shapes-enc, back-some, front-rounds}
+use Rattle.mode.specs.CountLaws.{rounds-enc, shapes-enc, back-some, front-rounds}
+use Rattle.mode.specs.Counts.{rekeyRounds, verifyRounds, encryptRounds, backShapes, frontCount}
 use Rattle.mode.specs.Ends.{encState, encState-long, enc-end}
 use Rattle.mode.specs.Theorems.{Ready}
 use Rattle.mode.specs.Between.{asideAfter, macState}

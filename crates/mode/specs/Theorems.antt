@@ -16,7 +16,7 @@ use Rattle.stopping.specs.Rows.{run, run-append}
 use Rattle.stopping.specs.Parts.{row, row-append}
 use Rattle.stopping.specs.Course.{Course, accepted, halted}
 use Rattle.stopping.specs.Halts.{halted-front, halted-accepted, halted-refused}
-use Rattle.stopping.specs.Kept.{KeepsParts, keeps-row, keeps-stopped}
+use Rattle.stopping.specs.Kept.{keeps-row, keeps-stopped}
 use Rattle.bits.specs.Strings.{same}
 use Rattle.bits.specs.StringLaws.{same-refl, same-true}
 use Rattle.mode.specs.Params.{Params, LawfulParams}
@@ -24,8 +24,9 @@ use Rattle.scheme.specs.Machine.{Opened.plaintext, Opened.refused, Machine, Inp
 use Rattle.mode.specs.Paper.{isapEnc, hashed, finished, isapMac, seal, unseal}
 use Rattle.mode.specs.PaperLaws.{enc-length, hashed-long, finished-long}
 use Rattle.mode.specs.Touches.{mac-keeps}
-use Rattle.mode.specs.Parts.{tagOf, part, macStart, assocs, ciphers, setAside, macKeyStart, macKeyBits, macKeyEnd, takeBack, tagged, macEnd, encParts, macParts, sealingCourse, openingCourse, course}
-use Rattle.mode.specs.Counts.{verifyRounds, encryptRounds, frontCount, front-rounds, back-rounds, lawful, all-count}
+use Rattle.mode.specs.Parts.{tagOf, encParts, macParts, sealingCourse, openingCourse, course}
+use Rattle.mode.specs.CountLaws.{front-rounds, back-rounds, lawful, all-count}
+use Rattle.mode.specs.Counts.{verifyRounds, encryptRounds, frontCount}
 use Rattle.mode.specs.Ends.{encState, encState-long, mac-end, enc-end}
 
 -- a machine on which a job may be begun: room for a state and for the session bytes, and an output as long as the text

@@ -8,7 +8,8 @@ use native.Mathlib.Numerals.{add-one}
 use native.Mathlib.Omega.{arith}
 use lib.ListN.{length, drop, drop-of-length-le}
 use Rattle.stopping.specs.Parts.{Shape, roundsIn, EachSome}
-use Rattle.stopping.specs.Places.{Place, Moves, moves, placeOf, shapeAt, place, behind, walk-here, walk-on, startOf, start-here, start-on, start-end, each-some}
+use Rattle.stopping.specs.PlaceLaws.{Moves, moves, behind, walk-here, walk-on, startOf, start-here, start-on, each-some}
+use Rattle.stopping.specs.Places.{Place, placeOf, shapeAt, place}
 
 module _ (hs : List Shape) (n : ℕ) where
   abbrev pub Left : ℕ → ℕ → Type 0

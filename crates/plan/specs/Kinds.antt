@@ -2,7 +2,7 @@
 -- Assumes nothing.
 use mathlib.Core.Path.{_≡_, refl, sym, ap, _∙_, subst}
 use mathlib.Core.Bool.{Bool, true, false}
-use mathlib.Core.List.{List, [], _∷_, _++_}
+use mathlib.Core.List.{[], _∷_, _++_}
 use Prim.Native.Nat.{ℕ, zero, suc, _+_, _/_, _%_, _≤_, _<_}
 use native.Mathlib.Nat.{not-suc-le-zero}
 use native.Mathlib.Omega.{arith}
@@ -18,7 +18,8 @@ use Rattle.scheme.specs.Scheme as schemes
 use Rattle.scheme.specs.Scheme.{partsOf}
 use Rattle.mode.specs.Params.{Params}
 use Rattle.mode.specs.Paper.{blocks}
-use Rattle.mode.specs.Instances.{isapA128a, isapA128, isapK128a, isapK128, paramsOf, by-instance}
+use Rattle.mode.specs.InstanceLaws.{by-instance}
+use Rattle.mode.specs.Instances.{isapA128a, isapA128, isapK128a, isapK128, paramsOf}
 use Rattle.mode.specs.Counts.{encShapes, macShapes, frontShapes, backShapes, allShapes}
 use Rattle.mode.specs.Isap.{isapScheme}
 use Rattle.instances.specs.Schemes.{schemeOf}

@@ -2,7 +2,8 @@
 ghost use mathlib.Core.Path.{_≡_};
 ghost use Prim.Native.Nat.{ℕ, _+_, _≤_, _<_};
 ghost use Rattle.stopping.specs.Parts.{roundsIn};
-ghost use Rattle.stopping.specs.Places.{place, placeOf, startOf};
+ghost use Rattle.stopping.specs.PlaceLaws.{startOf};
+ghost use Rattle.stopping.specs.Places.{place, placeOf};
 ghost use Rattle.scheme.specs.Scheme.{allShapes, partsOf};
 ghost use Rattle.instances.specs.Schemes.{schemeOf};
 ghost use Rattle.instances.specs.Limits.{mostAssoc, mostText};

@@ -23,7 +23,8 @@ use Rattle.mode.specs.Params.{Params}
 use Rattle.scheme.specs.Machine.{Machine, Input, onState, first, cipherOf, given, machine}
 use Rattle.mode.specs.Parts.{part, written, keyBits, texts, assocs, ciphers, macKeyBits}
 use Rattle.mode.specs.Calls.{turns-run}
-use Rattle.mode.specs.Instances.{paramsOf, lawful-instance}
+use Rattle.mode.specs.InstanceLaws.{lawful-instance}
+use Rattle.mode.specs.Instances.{paramsOf}
 use Rattle.mode.specs.Counts.{encShapes, macShapes}
 use Rattle.instances.specs.Limits.{unless-most}
 use Rattle.plan.specs.Kinds.{text-calls, shapeOf}

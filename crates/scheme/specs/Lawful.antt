@@ -10,11 +10,11 @@ use lib.ListN.{length}
 use Rattle.bits.specs.Pick.{pick}
 use Rattle.bits.specs.Bytes.{Bytes}
 use Rattle.stopping.specs.Rows.{run}
-use Rattle.stopping.specs.Parts.{Shape, roundsIn, EachSome, shapes, shapes-append, roundsIn-append, some-shapes, row}
+use Rattle.stopping.specs.Parts.{roundsIn, EachSome, shapes, shapes-append, roundsIn-append, some-shapes, row}
 use Rattle.stopping.specs.Course.{Course, Core, parts, frontRounds, backRounds, accepted, halted, steps, Lawful}
 use Rattle.stopping.specs.Kept.{KeepsParts, keeps-stopped, keeps-row}
 use Rattle.stopping.specs.Halts.{halted-front, halted-decided, halted-accepted, halted-refused, keeps-halted}
-use Rattle.scheme.specs.Machine.{Machine, Input, Opened, Opened.plaintext, Opened.refused, Buffer, Sound, Exact}
+use Rattle.scheme.specs.Machine.{Machine, Input, Opened.plaintext, Opened.refused, Buffer, Sound, Exact}
 use Rattle.scheme.specs.Blind.{BlindCourse, core-tails, all-exact, all-tails}
 use Rattle.scheme.specs.Scheme.{Scheme, allShapes, allCount, partsOf}
 

@@ -10,7 +10,8 @@ use Rattle.bits.specs.Run.{run}
 use Rattle.ascon.specs.Permutation.{asconRound}
 use Rattle.keccak.specs.Fips202.{keccakRound}
 use Rattle.mode.specs.Params.{Params}
-use Rattle.mode.specs.Instances.{isapA128a, isapA128, isapK128a, isapK128, paramsOf, by-number}
+use Rattle.mode.specs.InstanceLaws.{by-number}
+use Rattle.mode.specs.Instances.{isapA128a, isapA128, isapK128a, isapK128, paramsOf}
 
 -- instances 1 and 2
 unfoldable pub onAscon : ℕ → Bool

@@ -1,9 +1,8 @@
 -- The parts of ISAP by their kinds, 0 to 10 in a sealing's order, and what the functions here ask and give.
 -- Assumes nothing.
 use mathlib.Core.Path.{_≡_}
-use mathlib.Core.Bool.{Bool}
 use mathlib.Core.List.{List, _++_}
-use Prim.Native.Nat.{ℕ, _≤_, _<_}
+use Prim.Native.Nat.{ℕ, _<_}
 use lib.ListN.{length}
 use Rattle.stopping.specs.Parts.{Part}
 use Rattle.stopping.specs.Places.{partAt}

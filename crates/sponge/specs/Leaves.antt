@@ -2,7 +2,7 @@
 -- Assumes nothing.
 use mathlib.Core.Path.{_≡_, refl, ap, _∙_}
 use mathlib.Core.List.{List, _++_}
-use Prim.Native.Nat.{ℕ, _+_, _-_, _*_, _≤_, _<_}
+use Prim.Native.Nat.{ℕ, _+_, _-_, _*_, _<_}
 use lib.Dec.{eqb}
 use lib.ListN.{length, take}
 use Rattle.bits.specs.Pick.{pick}
@@ -11,14 +11,15 @@ use Rattle.bits.specs.Put.{putAt}
 use Rattle.bits.specs.Run.{front}
 use Rattle.bits.specs.Xors.{xors}
 use Rattle.stopping.specs.Parts.{Shape}
-use Rattle.stopping.specs.Places.{partAt, shapeAt, shape-part}
+use Rattle.stopping.specs.PlaceLaws.{shape-part}
+use Rattle.stopping.specs.Places.{partAt, shapeAt}
 use Rattle.bits.specs.Strings.{block}
 use Rattle.mode.specs.Params.{Params}
 use Rattle.mode.specs.Paper.{blocks}
 use Rattle.scheme.specs.Machine.{Input, onState, machine}
 use Rattle.mode.specs.Parts.{tagOf, part, keyStart, keyBits, keyEnd, written, texts, macStart, assocs, ciphers, macKeyStart, macKeyBits, macKeyEnd, tagged, macEnd, encParts, macParts}
 use Rattle.mode.specs.Instances.{paramsOf}
-use Rattle.mode.specs.Counts.{shapes-sealing}
+use Rattle.mode.specs.CountLaws.{shapes-sealing}
 use Rattle.plan.specs.Kinds.{shapeOf}
 use Rattle.sponge.specs.Kinds.{partOf}
 

@@ -8,7 +8,8 @@ use borrow.Author.Tests.{ne-eqb}
 use Rattle.bits.specs.Run.{turns}
 use Rattle.stopping.specs.Stopped.{Call, entered, left, one, left-more}
 use Rattle.stopping.specs.Parts.{roundsIn, shapes, shapes-append}
-use Rattle.stopping.specs.Places.{Place, place, placeOf, callAt, rounds-at, place-past, place-back, into, place-start, Moves, moves}
+use Rattle.stopping.specs.PlaceLaws.{rounds-at, place-past, place-back, into, place-start, Moves, moves}
+use Rattle.stopping.specs.Places.{Place, place, placeOf, callAt}
 use Rattle.stopping.specs.Course.{Course, parts, frontRounds, backRounds, Core, endingOf, coreAt, standsAt, step, steps, Lawful}
 use Rattle.stopping.specs.Follows.{steps-snoc, step-on, all-rounds, all-some}
 

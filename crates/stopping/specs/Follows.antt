@@ -13,7 +13,8 @@ use Rattle.bits.specs.Pick.{pick}
 use Rattle.stopping.specs.Stopped.{stopped, one, stopped-zero, stopped-more}
 use Rattle.stopping.specs.Rows.{run, at-end, stopped-front}
 use Rattle.stopping.specs.Parts.{roundsIn, EachSome, row, shapes, shapes-append, row-append, total-row, some-row, roundsIn-append, some-shapes}
-use Rattle.stopping.specs.Places.{callAt, at-place}
+use Rattle.stopping.specs.PlaceLaws.{at-place}
+use Rattle.stopping.specs.Places.{callAt}
 use Rattle.stopping.specs.Course.{Course, parts, frontRounds, backRounds, accepted, lasts, halted, endedBy, Core, endingOf, coreAt, standsAt, step, steps, begun, Lawful}
 
 module _ {M : Type 0} (c : Course M) where

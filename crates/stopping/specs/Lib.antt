@@ -2,6 +2,7 @@ pub mod Stopped
 pub mod Rows
 pub mod Parts
 pub mod Places
+pub mod PlaceLaws
 pub mod Kept
 pub mod Course
 pub mod Follows

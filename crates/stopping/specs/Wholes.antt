@@ -10,7 +10,8 @@ use native.Mathlib.Omega.{arith}
 use Rattle.bits.specs.Run.{turns}
 use Rattle.stopping.specs.Stopped.{Call, whole, entered, left, left-last}
 use Rattle.stopping.specs.Parts.{Part, Shape, callOf, shapes}
-use Rattle.stopping.specs.Places.{Place, place, placeOf, partAt, callAt, shapeAt, shape-part, place-inside, place-past, into, Moves, moves}
+use Rattle.stopping.specs.PlaceLaws.{shape-part, place-inside, place-past, into, Moves, moves}
+use Rattle.stopping.specs.Places.{Place, place, placeOf, partAt, callAt, shapeAt}
 use Rattle.stopping.specs.Course.{Course, parts, frontRounds, backRounds, Core, coreAt, standsAt, steps, Lawful}
 use Rattle.stopping.specs.Follows.{steps-add, all-rounds, all-some}
 use Rattle.stopping.specs.Chunks.{some, inside, chunk}

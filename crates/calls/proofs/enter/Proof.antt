@@ -1,6 +1,5 @@
 -- `calls::enter` meets its contract.
 -- Assumes nothing.
-use mathlib.Core.Path.{_≡_}
 use lib.ListN.{length}
 use Rattle.calls.proofs.Parts.{of-eleven, can-enter, enters}
 use Rattle.calls.proofs.enter.Statement.{statement}

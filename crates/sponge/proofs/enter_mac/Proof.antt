@@ -1,6 +1,5 @@
 -- `sponge::enter_mac` meets its contract: an answer for each case of the definition; a call that is there has its block or its bit.
 -- Assumes nothing.
-use native.Mathlib.Omega.{arith}
 use borrow.Author.Tests.{eq-eqb, ne-eqb}
 use borrow.Author.Needs.{needs}
 use Rattle.scheme.specs.Machine.{cipherOf}

@@ -7,7 +7,8 @@ use native.Mathlib.Omega.{arith}
 use lib.ListN.{replicate}
 use borrow.Author.Needs.{needs}
 use Rattle.mode.specs.Params.{iv}
-use Rattle.mode.specs.Instances.{paramsOf, lawful-instance}
+use Rattle.mode.specs.InstanceLaws.{lawful-instance}
+use Rattle.mode.specs.Instances.{paramsOf}
 use Rattle.sponge.proofs.Placing.{value-front}
 use Rattle.sponge.proofs.initial.Statement.{statement}
 use Rattle.sponge.proofs.initial.Tie as tie

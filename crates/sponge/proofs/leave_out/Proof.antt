@@ -10,7 +10,8 @@ use borrow.Author.Needs.{needs}
 use Rattle.bits.specs.Put.{putAt}
 use Rattle.bits.specs.Xors.{xors}
 use Rattle.bits.specs.Strings.{block}
-use Rattle.mode.specs.Instances.{paramsOf, lawful-instance}
+use Rattle.mode.specs.InstanceLaws.{lawful-instance}
+use Rattle.mode.specs.Instances.{paramsOf}
 use Rattle.sponge.specs.Leaves.{CanLeave}
 use Rattle.sponge.specs.Offsets.{text-offset, end-fits}
 use Rattle.sponge.proofs.Placing.{wrote}

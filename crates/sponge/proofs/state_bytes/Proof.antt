@@ -2,7 +2,7 @@
 -- Assumes nothing.
 use native.Mathlib.Omega.{arith}
 use borrow.Author.Needs.{needs}
-use Rattle.mode.specs.Instances.{lawful-instance}
+use Rattle.mode.specs.InstanceLaws.{lawful-instance}
 use Rattle.sponge.proofs.state_bytes.Statement.{statement}
 use Rattle.sponge.proofs.state_bytes.Tie as tie
 

@@ -1,7 +1,6 @@
 -- `isap::further::rounds_now` meets its contract: the rest of the call.
 -- Assumes nothing.
 use native.Mathlib.Omega.{arith}
-use borrow.Author.Needs.{needs}
 use Rattle.isap.proofs.Going.{is-part, rounds-is}
 use Rattle.isap.proofs.further.rounds_now.Statement.{statement}
 use Rattle.isap.proofs.further.rounds_now.Tie as tie

@@ -1,6 +1,5 @@
 -- `isap::turns::entered` meets its contract.
 -- Assumes nothing.
-use borrow.Author.Needs.{needs}
 use Rattle.instances.specs.Schemes.{schemeOf}
 use Rattle.isap.specs.Turns.{meets-later, meets-first}
 use Rattle.isap.proofs.turns.entered.Statement.{statement}

@@ -6,7 +6,8 @@ use native.Mathlib.Omega.{arith}
 use borrow.Author.Needs.{needs}
 use borrow.Author.Tests.{ne-eqb}
 use Rattle.stopping.specs.Places.{shapeAt}
-use Rattle.mode.specs.Instances.{paramsOf, lawful-instance}
+use Rattle.mode.specs.InstanceLaws.{lawful-instance}
+use Rattle.mode.specs.Instances.{paramsOf}
 use Rattle.mode.specs.Counts.{encShapes, macShapes}
 use Rattle.plan.specs.declared.numbers.Numbers.{Numbers}
 use Rattle.plan.specs.Numbers.{OfInstance}

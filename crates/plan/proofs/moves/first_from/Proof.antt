@@ -7,7 +7,8 @@ use Prim.Native.Nat.{ℕ, _-_, _≤_}
 use native.Mathlib.Omega.{arith}
 use lib.ListN.{length}
 use Rattle.stopping.specs.Parts.{Shape}
-use Rattle.stopping.specs.Places.{place, startOf, start-end}
+use Rattle.stopping.specs.PlaceLaws.{startOf, start-end}
+use Rattle.stopping.specs.Places.{place}
 use Rattle.scheme.specs.Scheme.{allShapes, partsOf}
 use Rattle.scheme.specs.Lawful.{all-some}
 use Rattle.instances.specs.Schemes.{schemeOf, lawful-scheme}

@@ -1,9 +1,8 @@
 -- `plan::moves::moved` meets its contract: inside the call, to the next call, or to the next part.
 -- Assumes nothing.
 use mathlib.Core.Path.{_≡_, refl, sym, ap, _∙_}
-use Prim.Native.Nat.{_+_, _≤_, _<_}
+use Prim.Native.Nat.{_+_}
 use native.Mathlib.Omega.{arith}
-use borrow.Author.Needs.{needs}
 use Rattle.stopping.specs.Places.{place}
 use Rattle.scheme.specs.Scheme.{allShapes}
 use Rattle.scheme.specs.Lawful.{all-some}

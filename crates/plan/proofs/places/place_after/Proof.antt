@@ -7,7 +7,6 @@ use native.Mathlib.Nat.{mul-le-mul}
 use native.Mathlib.Omega.{arith}
 use lib.ListN.{length}
 use Rattle.scheme.specs.Scheme.{allShapes, partsOf}
-use Rattle.scheme.specs.Lawful.{LawfulScheme}
 use Rattle.instances.specs.Schemes.{schemeOf, lawful-scheme}
 use Rattle.plan.specs.Planned.{placed}
 use Rattle.plan.proofs.Walk.{Left, left-all, left-none, found, passed}

@@ -1,8 +1,5 @@
 -- `plan::shapes::parts_of` meets its contract: both directions have eleven.
 -- Assumes nothing.
-use mathlib.Core.Path.{_≡_, refl}
-use mathlib.Core.Bool.{Bool, true, false}
-use Prim.Native.Nat.{ℕ}
 use native.Mathlib.Omega.{arith}
 use Rattle.plan.specs.Kinds.{eleven-parts}
 use Rattle.plan.proofs.shapes.parts_of.Statement.{statement}

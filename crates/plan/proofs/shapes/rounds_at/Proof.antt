@@ -1,8 +1,7 @@
 -- `plan::shapes::rounds_at` meets its contract.
 -- Assumes nothing.
-use mathlib.Core.Path.{_≡_, sym, ap, _∙_}
+use mathlib.Core.Path.{ap, _∙_}
 use native.Mathlib.Omega.{arith}
-use borrow.Author.Needs.{needs}
 use Rattle.stopping.specs.Parts.{Shape}
 use Rattle.plan.specs.Kinds.{eleven-parts, shape-of-part}
 use Rattle.plan.proofs.shapes.rounds_at.Statement.{statement}

@@ -1,9 +1,8 @@
 -- `planning::lines::put_plan` meets its contract: four strings, one behind the other.
 -- Assumes nothing.
-use mathlib.Core.Path.{_≡_, refl, ap, _∙_, sym}
-use Prim.Native.Nat.{ℕ, _<_}
+use mathlib.Core.Path.{ap}
+use Prim.Native.Nat.{_<_}
 use native.Mathlib.Omega.{arith}
-use denote.Ref.{now}
 use borrow.Author.Needs.{needs}
 use Rattle.plan.specs.declared.Planned.{Planned}
 use Rattle.plan.specs.PlanLaws.{plan-within}
