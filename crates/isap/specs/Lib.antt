@@ -15,3 +15,4 @@ pub mod Reached
 pub mod Budgets
 pub mod Begins
 pub mod Promises
+pub mod Lasts
