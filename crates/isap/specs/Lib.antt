@@ -16,3 +16,4 @@ pub mod Budgets
 pub mod Begins
 pub mod Promises
 pub mod Lasts
+pub mod Beyond

@@ -5,3 +5,4 @@ pub mod Lawful
 pub mod Calls
 pub mod Quiet
 pub mod Blocks
+pub mod Beyond
