@@ -8,7 +8,7 @@ use lib.ListN.{length}
 use Rattle.stopping.specs.Parts.{Shape}
 use Rattle.stopping.specs.Places.{shapeAt}
 use Rattle.scheme.specs.Scheme.{allShapes, allCount, partsOf}
-use Rattle.scheme.specs.Calls.{Inner, Goes}
+use Rattle.scheme.specs.Calls.{Inner}
 use Rattle.instances.specs.Schemes.{schemeOf, lawful-scheme}
 use Rattle.instances.specs.Limits.{mostAssoc, mostText, mostCalls, mostRounds, total-most}
 use Rattle.plan.specs.declared.places.Place.{Place}
@@ -16,7 +16,7 @@ use Rattle.isap.specs.declared.Job.{Job}
 use Rattle.isap.specs.Records.{sealingOf, shapesOf, frontOf, backOf, totalOf, changed}
 use Rattle.isap.specs.Turns.{At, shapeHere}
 use Rattle.isap.specs.Sofar.{Fresh, fresh-at, Turned}
-use Rattle.isap.specs.Rows.{roundsAt, Row, Rowable, Rows, row-upto, row-turned}
+use Rattle.isap.specs.Rows.{roundsAt, Row, Rowable, Rows, Went, row-upto, row-turned}
 
 module _ (j : Job) where
   pub is-part : At schemeOf j (j .place) → j .place .part < partsOf (schemeOf (j .instance)) (sealingOf (j .direction))
@@ -83,8 +83,7 @@ module _ (j : Job) (assoc text out : List ℕ) (h : Fresh schemeOf j assoc text 
   pub sum-fits : j .done + calls * rounds ≤ mostRounds
   sum-fits = omega (arith, done-fits, ap (λ (n : ℕ). calls * n) (rounds-is j rounds rs))
 
-  pub gone-on : (state out′ : List ℕ)
-      → Goes (schemeOf (j .instance)) (sealingOf (j .direction)) (j .place .part) (j .place .call) calls (j .nonce) assoc text (j .state) (j .session) out state out′ → length out′ ≡ length out → (r : Job)
+  pub gone-on : (state out′ : List ℕ) → Went schemeOf j calls assoc text out state out′ → length out′ ≡ length out → (r : Job)
       → r ≡ changed j (j .tag) (j .done + calls * rounds) (record { part = j .place .part; call = j .place .call + calls; round = 0 }) (j .ending) state (j .session)
       → Turned schemeOf j assoc text out (calls * roundsAt schemeOf j) r out′
   gone-on state out′ g l r e =

@@ -64,6 +64,11 @@ module _ (of : ℕ → Scheme) where
   pub no-row : (j : Job) (left : ℕ) → Rows j left 0
   no-row j left = record { isRow = λ z. absurd (omega arith); fits = omega (arith, zero-mul (roundsAt j)) }
 
+  -- what the calls leave
+  abbrev pub Went : Job → (calls : ℕ) → (assoc text out state′ out′ : List ℕ) → Type 0
+  Went j calls assoc text out state out′ =
+      Goes (of (j .instance)) (sealingOf (j .direction)) (j .place .part) (j .place .call) calls (j .nonce) assoc text (j .state) (j .session) out state out′
+
 module _ (of : ℕ → Scheme) (laws : (i : ℕ) → LawfulScheme (of i)) (j : Job) (assoc text out : List ℕ) (h : Fresh of j assoc text out) (calls : ℕ) (row : Row of j calls) where
   ready : Ready of j assoc text out 1
   ready = fresh-ready of laws h 1 (lit< tt) (omega (arith, fresh-at of laws h .isRound))
@@ -104,8 +109,7 @@ module _ (of : ℕ → Scheme) (laws : (i : ℕ) → LawfulScheme (of i)) (j : J
       sym (stands-at of laws j assoc text out 1 ready (j .done + count)) ∙ ap (λ (n : ℕ). standsAt (courseOf of j assoc text) (j .done + n)) (sym rounds-is)
       ∙ row-place (courseOf of j assoc text) (lawful-c of laws j assoc text out 1 ready) (coreOf j out) (h .unended) (more of laws j assoc text out 1 ready) (j .place .part) (j .place .call) stands calls room
 
-  module _ (state out′ : List ℕ)
-      (g : Goes (of (j .instance)) (sealingOf (j .direction)) (j .place .part) (j .place .call) calls (j .nonce) assoc text (j .state) (j .session) out state out′) where
+  module _ (state out′ : List ℕ) (g : Went of j calls assoc text out state out′) where
     core : Core Machine
     core = record { machine = record { state = state; session = j .session; out = out′; tag = j .tag }; done = j .done + count; ending = 0 }
 

@@ -4,7 +4,7 @@ ghost use Rattle.instances.specs.Schemes.{schemeOf};
 ghost use Rattle.instances.specs.Limits.{mostAssoc, mostText};
 ghost use Rattle.isap.specs.Turns.{At, Rest};
 ghost use Rattle.isap.specs.Sofar.{Fresh, Timed, Turned};
-ghost use Rattle.isap.specs.Rows.{roundsAt, Further, Many, Rows};
+ghost use Rattle.isap.specs.Rows.{roundsAt, Further, Many, Rows, Went};
 use crate::Job;
 use crate::turns::changed;
 use crate::turns::turn;
@@ -32,17 +32,17 @@ fn row_calls(job: Job, left: u32) -> u32
     if fit < calls { fit } else { calls }
 }
 
-// The record after these calls.
-fn row(job: Job, assoc: &[u8], text: &[u8], out: &mut [u8], calls: u32) -> Job
+// The state after these calls.
+fn state_after(job: Job, assoc: &[u8], text: &[u8], out: &mut [u8], calls: u32) -> [u8; 50]
     requires { ⌜ (Fresh schemeOf job (now assoc) (now text) (now out)) × (Many schemeOf job calls) ⌝ }
-    ensures { λ r. ⌜ Turned schemeOf job (now (assoc .entry)) (now (text .entry)) (now (out .entry)) (calls * roundsAt schemeOf job) r (now (out .exit)) ⌝ }
+    ensures { λ r. ⌜ Went schemeOf job calls (now (assoc .entry)) (now (text .entry)) (now (out .entry)) r (now (out .exit)) ⌝ }
 {
-    let sealing = job.direction == 1;
     let at = job.place;
+    let sealing = job.direction == 1;
     let nonce = job.nonce;
     let met = job.state;
     let session = job.session;
-    let state = calls::go(
+    calls::go(
         job.instance,
         sealing,
         at,
@@ -53,7 +53,17 @@ fn row(job: Job, assoc: &[u8], text: &[u8], out: &mut [u8], calls: u32) -> Job
         text,
         out,
         calls,
-    );
+    )
+}
+
+// The record after these calls.
+fn row(job: Job, assoc: &[u8], text: &[u8], out: &mut [u8], calls: u32) -> Job
+    requires { ⌜ (Fresh schemeOf job (now assoc) (now text) (now out)) × (Many schemeOf job calls) ⌝ }
+    ensures { λ r. ⌜ Turned schemeOf job (now (assoc .entry)) (now (text .entry)) (now (out .entry)) (calls * roundsAt schemeOf job) r (now (out .exit)) ⌝ }
+{
+    let state = state_after(job, assoc, text, out, calls);
+    let sealing = job.direction == 1;
+    let at = job.place;
     let done = job.done + calls * plan::rounds_at(job.instance, sealing, at.part);
     let place = Place {
         part: at.part,
@@ -61,6 +71,7 @@ fn row(job: Job, assoc: &[u8], text: &[u8], out: &mut [u8], calls: u32) -> Job
         round: 0,
     };
     let tag = job.tag;
+    let session = job.session;
     changed(job, tag, done, place, job.ending, state, session)
 }
 
