@@ -1,5 +1,5 @@
 # The tables of docs/BENCHMARK.md: `part` says which. Lines are 'OPERATION INSTANCE ASSOC TEXT BUDGET OURS BASELINE', for the part `stack`
-# 'INSTANCE SEALING OPENING'.
+# 'INSTANCE SEALING OPENING'. For the part `times` a request has several lines, and lines 'NAME=VALUE' stand before them.
 
 BEGIN {
     split("ISAP-A-128a ISAP-A-128 ISAP-K-128a ISAP-K-128", name)
@@ -11,10 +11,20 @@ BEGIN {
     split("0 16 64 256 1024 4096", texts)
     split("1 8 64 4294967295", budgets)
     aim = 1.5
+    apart = 1.1
 }
 
 part == "stack" {
     stack = stack "| " $1 " " name[$1] " | " spelled($2) " | " spelled($3) " |\n"
+    next
+}
+
+part == "times" {
+    if ($0 !~ /=/) {
+        widen("ours", key($1, $2, $3, $4, $5), $6)
+        widen("baseline", key($1, $2, $3, $4, $5), $7)
+        widen("ratio", key($1, $2, $3, $4, $5), $7 > 0 ? $6 / $7 : 0)
+    }
     next
 }
 
@@ -32,6 +42,8 @@ END {
         whole()
     else if (part == "slices")
         slices()
+    else if (part == "times")
+        times()
     else if (part == "stack")
         printf "| Instance | sealing | opening |\n|---|---|---|\n%s", stack
 }
@@ -98,10 +110,8 @@ function a_round(    i, k, r) {
     }
 }
 
-# A row, if it was measured: times are taken for some lengths only.
 function whole_row(i, a, m) {
-    if (key(1, i, a, m, 0) in ours)
-        printf "| %d | %s | %s | %s | %s |\n", a, spelled(m), spelled(rounds(i, a, m)), cost(key(1, i, a, m, 0)), cost(key(2, i, a, m, 0))
+    printf "| %d | %s | %s | %s | %s |\n", a, spelled(m), spelled(rounds(i, a, m)), cost(key(1, i, a, m, 0)), cost(key(2, i, a, m, 0))
 }
 
 function whole(    i, x, y) {
@@ -131,4 +141,37 @@ function slices(    i, y) {
     for (i = 1; i <= 4; i++)
         for (y = 1; y <= 6; y++)
             slices_row(i, texts[y])
+}
+
+# The lowest and the highest of what the lines of a request say.
+function widen(what, k, value) {
+    if (!((what, k) in low) || value < low[what, k])
+        low[what, k] = value
+    if (!((what, k) in high) || value > high[what, k])
+        high[what, k] = value
+}
+
+# The text, if the lines of a request are close enough to carry it.
+function carried(what, k, text) {
+    return low[what, k] > 0 && high[what, k] <= apart * low[what, k] ? text : "not steady"
+}
+
+# The least time, to three digits.
+function least(what, k,    unit) {
+    for (unit = 1; low[what, k] >= 1000 * unit; unit *= 10)
+        continue
+    return carried(what, k, spelled(int(low[what, k] / unit + 0.5) * unit))
+}
+
+# What a job takes. The ratio of the least times lies between those of the lines.
+function taken(k) {
+    return least("ours", k) " | " least("baseline", k) " | " carried("ratio", k, \
+        sprintf("%.2f (%.2f to %.2f)", low["ours", k] / low["baseline", k], low["ratio", k], high["ratio", k]))
+}
+
+function times(    i, y) {
+    print "| Instance | m | sealing: ours | baseline | ratio | opening: ours | baseline | ratio |\n|---|---|---|---|---|---|---|---|"
+    for (i = 1; i <= 4; i++)
+        for (y = 1; y <= 6; y++)
+            printf "| %d %s | %s | %s | %s |\n", i, name[i], spelled(texts[y]), taken(key(1, i, 0, texts[y], 0)), taken(key(2, i, 0, texts[y], 0))
 }
