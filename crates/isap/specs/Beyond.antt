@@ -42,6 +42,13 @@ pub record Zeroed (n : ℕ) (j : Job) : Type 0 where
   pub state : drop n (j .state) ≡ replicate (50 - n) 0
   pub session : drop n (j .session) ≡ replicate (50 - n) 0
 
+-- what is all zeros is so from any place on
+pub zeros-behind : (i k : ℕ) → i ≤ k → (s : List ℕ) → s ≡ replicate k 0 → drop i s ≡ replicate (k - i) 0
+zeros-behind i k h s e =
+    let all : i + (k - i) ≡ k = omega arith in
+    ap (drop i) (e ∙ ap (λ (n : ℕ). replicate n 0) (sym all) ∙ sym (replicate-append-replicate i (k - i) 0))
+    ∙ drop-at (replicate i 0) (replicate (k - i) 0) i (length-replicate i 0)
+
 module _ (of : ℕ → Scheme) (laws : (i : ℕ) → LawfulScheme (of i)) where
   -- ---- a slice of any record, whatever is lent to it
 
@@ -106,13 +113,6 @@ module _ (of : ℕ → Scheme) (laws : (i : ℕ) → LawfulScheme (of i)) where
 
   module _ (j : Job) (assoc text out : List ℕ) (h : Begun of j assoc text out) (keyed : Keyed (of (j .instance)) (inputOf j assoc text))
       (room : of (j .instance) .n ≤ 50) where
-    zeros-behind : (s : List ℕ) → s ≡ replicate 50 0 → drop (of (j .instance) .n) s ≡ replicate (50 - of (j .instance) .n) 0
-    zeros-behind s e =
-        let i = of (j .instance) .n in
-        let all : i + (50 - i) ≡ 50 = omega (arith, room) in
-        ap (drop i) (e ∙ ap (λ (k : ℕ). replicate k 0) (sym all) ∙ sym (replicate-append-replicate i (50 - i) 0))
-        ∙ drop-at (replicate i 0) (replicate (50 - i) 0) i (length-replicate i 0)
-
     -- after any number of rounds
     pub zeros-beyond : (k : ℕ) → Zeroed (of (j .instance) .n) (at of laws j assoc text out h k)
     unfolding at courseOf following
@@ -126,10 +126,10 @@ module _ (of : ℕ → Scheme) (laws : (i : ℕ) → LawfulScheme (of i)) where
         record {
           state =
               ap (λ (u : Core Machine). drop (s .n) (u .machine .state)) e ∙ steps-leave-state s l x keyed k q (r .state) (r .session)
-              ∙ zeros-behind (j .state) (begun-state of j assoc text out h);
+              ∙ zeros-behind (s .n) 50 room (j .state) (begun-state of j assoc text out h);
           session =
               ap (λ (u : Core Machine). drop (s .n) (u .machine .session)) e ∙ steps-leave-session s l x keyed k q (r .state) (r .session)
-              ∙ zeros-behind (j .session) (begun-session of j assoc text out h);
+              ∙ zeros-behind (s .n) 50 room (j .session) (begun-session of j assoc text out h);
         }
 
     -- after any row of budgets
