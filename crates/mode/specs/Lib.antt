@@ -20,3 +20,4 @@ pub mod Between
 pub mod Outputs
 pub mod Aside
 pub mod Sessions
+pub mod Lasts
