@@ -100,16 +100,25 @@ module _ (p : Params) (l : LawfulParams p) (x : Input) where
         (λ o. mac-keeps p x (λ out. out ≡ o)) mac-some (sealing-accepted p l x hk hn m ready d) cipher (sealing-out p l x hk hn m ready d) n
         ∙ ap (λ (k : ℕ). take (blocksWritten p t k * p .b) cipher ++ drop (blocksWritten p t k * p .b) (m .out)) none
 
-    -- after V + k rounds of an opening that is accepted: the paper's plaintext up to the blocks written in k rounds of decryption
+    -- after n rounds of an opening that is accepted: the paper's plaintext up to the blocks written since V, none of them before
+    pub opening-out-at : x .sealing ≡ false → accepted (course p x) m ≡ true → (n : ℕ)
+        → let w = blocksWritten p (length (x .text)) (n - verifyRounds p (length (x .assoc)) (length (x .text))) in
+        halted (course p x) n m .out ≡ take (w * p .b) (isapEnc p (x .key) (x .nonce) (x .text)) ++ drop (w * p .b) (m .out)
+    unfolding course openingCourse shapes EachSome KeepsParts
+    opening-out-at d e n =
+        let plain = isapEnc p (x .key) (x .nonce) (x .text) in
+        let mac : roundsIn (shapes (macParts p x)) ≡ verifyRounds p a t = ap roundsIn (shapes-mac p x) ∙ rounds-mac p a t in
+        going-out (macParts p x) [] (ap (λ (b : Bool). parts (pick b (sealingCourse p x) (openingCourse p x))) d)
+        (λ o. mac-keeps p x (λ out. out ≡ o)) (λ o. tt) tt e plain (opening-out p l x hk hn m ready d e) n
+        ∙ ap (λ (v : ℕ). take (blocksWritten p t (n - v) * p .b) plain ++ drop (blocksWritten p t (n - v) * p .b) (m .out)) mac
+
+    -- so after V + k rounds: those written in k rounds of decryption
     pub opening-out-after : x .sealing ≡ false → accepted (course p x) m ≡ true → (k : ℕ)
         → let w = blocksWritten p (length (x .text)) k in
         halted (course p x) (verifyRounds p (length (x .assoc)) (length (x .text)) + k) m .out
         ≡ take (w * p .b) (isapEnc p (x .key) (x .nonce) (x .text)) ++ drop (w * p .b) (m .out)
-    unfolding course openingCourse shapes EachSome KeepsParts
     opening-out-after d e k =
         let plain = isapEnc p (x .key) (x .nonce) (x .text) in
-        let mac : roundsIn (shapes (macParts p x)) ≡ verifyRounds p a t = ap roundsIn (shapes-mac p x) ∙ rounds-mac p a t in
-        let past : verifyRounds p a t + k - roundsIn (shapes (macParts p x)) ≡ k = omega arith in
-        going-out (macParts p x) [] (ap (λ (b : Bool). parts (pick b (sealingCourse p x) (openingCourse p x))) d)
-        (λ o. mac-keeps p x (λ out. out ≡ o)) (λ o. tt) tt e plain (opening-out p l x hk hn m ready d e) (verifyRounds p a t + k)
+        let past : verifyRounds p a t + k - verifyRounds p a t ≡ k = omega arith in
+        opening-out-at d e (verifyRounds p a t + k)
         ∙ ap (λ (i : ℕ). take (blocksWritten p t i * p .b) plain ++ drop (blocksWritten p t i * p .b) (m .out)) past

@@ -1,0 +1,126 @@
+-- Document 01's rule between two rounds, on the record and the output of a job of ISAP from a beginning: which bytes of the output are the
+-- paper's, when the tag is made, and when the MAC state is set aside, after every number of rounds and every row of budgets.
+-- Assumes nothing.
+use mathlib.Core.Path.{_≡_, ap, _∙_}
+use mathlib.Core.Logic.{_⊎_}
+use mathlib.Core.List.{List, _++_}
+use Prim.Native.Nat.{ℕ, _+_, _-_, _*_, _≤_, _<_}
+use lib.ListN.{length, take, drop, replicate}
+use borrow.Author.Tests.{eq-eqb}
+use Rattle.stopping.specs.Course.{halted}
+use Rattle.stopping.specs.Follows.{following}
+use Rattle.scheme.specs.Machine.{Machine, Input}
+use Rattle.mode.specs.Params.{Params, LawfulParams}
+use Rattle.mode.specs.Paper.{isapEnc, isapMac, seal}
+use Rattle.mode.specs.Counts.{rekeyRounds, verifyRounds, encryptRounds}
+use Rattle.mode.specs.Instances.{paramsOf, lawful-instance}
+use Rattle.mode.specs.Isap.{isapScheme}
+use Rattle.mode.specs.Theorems.{Ready, sealing-tag, accepts-if, untouched-refused}
+use Rattle.mode.specs.Lasts.{refuses-if}
+use Rattle.mode.specs.Between.{blocksWritten, asideAfter, macState}
+use Rattle.mode.specs.Outputs.{sealing-out-after, opening-out-at}
+use Rattle.mode.specs.Sessions.{tag-before-the-end, session-in, session-outside}
+use Rattle.instances.specs.Schemes.{schemeOf, scheme-fits}
+use Rattle.isap.specs.declared.Job.{Job}
+use Rattle.isap.specs.Records.{inputOf, machineOf, courseOf}
+use Rattle.isap.specs.Reached.{at}
+use Rattle.isap.specs.Lasts.{opening-seals-not, begun-session}
+use Rattle.isap.specs.Beyond.{zeros-behind}
+use Rattle.isap.specs.Budgets.{Progress}
+use Rattle.promises.specs.Jobs.{IsapJob, ready, afterRounds, Throughout, throughout}
+
+-- ---- the rule
+
+-- an output of which w blocks are written: those of the text y, and beyond them the bytes that were lent
+abbrev pub blocksOver : Params → (w : ℕ) → (y out : List ℕ) → List ℕ
+blocksOver p w y out = take (w * p .b) y ++ drop (w * p .b) out
+
+-- the session bytes after n rounds: from the first round of the MAC's re-keying to its last the paper's MAC state, else zero
+pub record SessionAfter (p : Params) (x : Input) (n : ℕ) (session : List ℕ) : Type 0 where
+  pub aside : asideAfter p (x .sealing) (length (x .assoc)) (length (x .text)) < n
+      → n ≤ asideAfter p (x .sealing) (length (x .assoc)) (length (x .text)) + rekeyRounds p
+      → session ≡ macState p x ++ replicate (50 - p .n) 0
+  pub elsewhere : (n ≤ asideAfter p (x .sealing) (length (x .assoc)) (length (x .text)))
+      ⊎ (asideAfter p (x .sealing) (length (x .assoc)) (length (x .text)) + rekeyRounds p < n)
+      → session ≡ replicate 50 0
+
+module _ (p : Params) (x : Input) where
+  -- V and E
+  abbrev verify : ℕ
+  verify = verifyRounds p (length (x .assoc)) (length (x .text))
+
+  abbrev encrypt : ℕ
+  encrypt = encryptRounds p (length (x .text))
+
+  -- the paper's encryption of the text, and its tag over the ciphertext y
+  abbrev enc : List ℕ
+  enc = isapEnc p (x .key) (x .nonce) (x .text)
+
+  abbrev mac : List ℕ → List ℕ
+  mac y = isapMac p (x .key) (x .nonce) (x .assoc) y
+
+  -- a sealing after n rounds, to which the bytes out were lent
+  pub record SealingAfter (out : List ℕ) (n : ℕ) (q : Progress) : Type 0 where
+    pub output : q .out ≡ blocksOver p (blocksWritten p (length (x .text)) n) enc out
+    pub untagged : n < encrypt + verify → q .job .tag ≡ replicate 16 0
+    pub tagged : encrypt + verify ≤ n → q .job .tag ≡ mac enc
+    pub session : SessionAfter p x n (q .job .session)
+
+  -- an opening after n rounds, which received the tag: with the paper's, and with another
+  pub record OpeningAfter (received out : List ℕ) (n : ℕ) (q : Progress) : Type 0 where
+    pub right : received ≡ mac (x .text) → q .out ≡ blocksOver p (blocksWritten p (length (x .text)) (n - verify)) enc out
+    pub wrong : (received ≡ mac (x .text) → ⊥) → q .out ≡ out
+    pub session : SessionAfter p x n (q .job .session)
+
+-- ---- jobs keep it
+
+module _ (j : Job) (assoc text out : List ℕ) (h : IsapJob j assoc text out) where
+  abbrev p : Params
+  p = paramsOf (j .instance)
+
+  abbrev x : Input
+  x = inputOf j assoc text
+
+  abbrev m : Machine
+  m = machineOf j out
+
+  abbrev l : LawfulParams p
+  l = lawful-instance (j .instance)
+
+  abbrev r : Ready p x m
+  r = ready j assoc text out h
+
+  session-after : (n : ℕ) → SessionAfter p x n (halted (courseOf schemeOf j assoc text) n m .session)
+  unfolding courseOf schemeOf isapScheme
+  session-after n =
+      let zero = begun-session schemeOf j assoc text out (h .begun) in
+      let rest = zeros-behind (p .n) 50 (scheme-fits (j .instance)) (j .session) zero in
+      record {
+        aside = λ f b. session-in p l x (h .key) (h .nonce) m r n f b ∙ ap (λ (v : List ℕ). macState p x ++ v) rest;
+        elsewhere = session-outside p l x (h .key) (h .nonce) m r 50 zero n;
+      }
+
+  pub sealing-between : j .direction ≡ 1 → j .tag ≡ replicate 16 0 → Throughout j assoc text out h (SealingAfter p x out)
+  unfolding afterRounds at following courseOf schemeOf isapScheme seal
+  sealing-between d zero =
+      let seals = eq-eqb (j .direction) 1 d in
+      throughout j assoc text out h (SealingAfter p x out)
+      (λ n.
+      record {
+        output = sealing-out-after p l x (h .key) (h .nonce) m r seals n;
+        untagged = λ b. tag-before-the-end p l x seals m n b ∙ zero;
+        tagged = sealing-tag p l x (h .key) (h .nonce) m r seals n;
+        session = session-after n;
+      })
+
+  pub opening-between : j .direction ≡ 2 → Throughout j assoc text out h (OpeningAfter p x (j .tag) out)
+  unfolding afterRounds at following courseOf schemeOf isapScheme
+  opening-between d =
+      let opens = opening-seals-not (j .direction) d in
+      throughout j assoc text out h (OpeningAfter p x (j .tag) out)
+      (λ n.
+      record {
+        right = λ e. opening-out-at p l x (h .key) (h .nonce) m r opens (accepts-if p l x (h .key) (h .nonce) m r opens e) n;
+        wrong = λ e. untouched-refused p l x (h .key) (h .nonce) m r opens (refuses-if p l x (h .key) (h .nonce) m r opens e) n;
+        session = session-after n;
+      })
