@@ -20,12 +20,12 @@ use Rattle.mode.specs.Lasts.{refuses-if}
 use Rattle.mode.specs.Between.{blocksWritten, asideAfter, macState}
 use Rattle.mode.specs.Outputs.{sealing-out-after, opening-out-at}
 use Rattle.mode.specs.Sessions.{tag-before-the-end, session-in, session-outside}
-use Rattle.instances.specs.Schemes.{schemeOf, scheme-fits}
+use Rattle.instances.specs.Schemes.{schemeOf, lawful-scheme, scheme-fits}
 use Rattle.isap.specs.declared.Job.{Job}
 use Rattle.isap.specs.Records.{inputOf, machineOf, courseOf}
 use Rattle.isap.specs.Reached.{at}
 use Rattle.isap.specs.Lasts.{opening-seals-not, begun-session}
-use Rattle.isap.specs.Beyond.{zeros-behind}
+use Rattle.isap.specs.Beyond.{Zeroed, zeros-behind, zeros-beyond}
 use Rattle.isap.specs.Budgets.{Progress}
 use Rattle.promises.specs.Jobs.{IsapJob, ready, afterRounds, Throughout, throughout}
 
@@ -124,3 +124,10 @@ module _ (j : Job) (assoc text out : List ℕ) (h : IsapJob j assoc text out) wh
         wrong = λ e. untouched-refused p l x (h .key) (h .nonce) m r opens (refuses-if p l x (h .key) (h .nonce) m r opens e) n;
         session = session-after n;
       })
+
+  -- beyond its n bytes, state and session are zero
+  pub beyond-zero : Throughout j assoc text out h (λ n q. Zeroed (paramsOf (j .instance) .n) (q .job))
+  unfolding afterRounds schemeOf isapScheme
+  beyond-zero =
+      throughout j assoc text out h (λ n q. Zeroed (p .n) (q .job))
+      (zeros-beyond schemeOf lawful-scheme j assoc text out (h .begun) (record { key = h .key; nonce = h .nonce }) (scheme-fits (j .instance)))

@@ -1,3 +1,4 @@
 pub mod Jobs
+pub mod FromBeginnings
 pub mod Endings
 pub mod BetweenRounds
