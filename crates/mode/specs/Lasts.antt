@@ -11,7 +11,8 @@ use Rattle.scheme.specs.Machine.{Machine, Input}
 use Rattle.mode.specs.Params.{Params, LawfulParams}
 use Rattle.mode.specs.Paper.{isapMac}
 use Rattle.mode.specs.Parts.{course}
-use Rattle.mode.specs.Counts.{verifyRounds, encryptRounds, frontCount, front-rounds, back-rounds, all-count, lawful}
+use Rattle.mode.specs.CountLaws.{front-rounds, back-rounds, all-count, lawful}
+use Rattle.mode.specs.Counts.{verifyRounds, encryptRounds, frontCount}
 use Rattle.mode.specs.Theorems.{Ready, sealing-accepted, accepts-if, accepts-only-if}
 
 module _ (p : Params) (l : LawfulParams p) (x : Input) (hk : length (x .key) ≡ 16) (hn : length (x .nonce) ≡ 16) (m : Machine) (ready : Ready p x m) where

@@ -13,7 +13,8 @@ use Rattle.scheme.specs.Machine.{Machine, Input}
 use Rattle.mode.specs.Params.{Params, LawfulParams}
 use Rattle.mode.specs.Paper.{isapEnc, isapMac, seal}
 use Rattle.mode.specs.Counts.{rekeyRounds, verifyRounds, encryptRounds}
-use Rattle.mode.specs.Instances.{paramsOf, lawful-instance}
+use Rattle.mode.specs.InstanceLaws.{lawful-instance}
+use Rattle.mode.specs.Instances.{paramsOf}
 use Rattle.mode.specs.Isap.{isapScheme}
 use Rattle.mode.specs.Theorems.{Ready, sealing-tag, accepts-if, untouched-refused}
 use Rattle.mode.specs.Lasts.{refuses-if}

@@ -15,7 +15,8 @@ use Rattle.scheme.specs.Machine.{Machine, Input}
 use Rattle.mode.specs.Params.{Params, LawfulParams}
 use Rattle.mode.specs.Paper.{isapMac}
 use Rattle.mode.specs.Counts.{verifyRounds, encryptRounds}
-use Rattle.mode.specs.Instances.{paramsOf, lawful-instance}
+use Rattle.mode.specs.InstanceLaws.{lawful-instance}
+use Rattle.mode.specs.Instances.{paramsOf}
 use Rattle.mode.specs.Isap.{isapScheme}
 use Rattle.mode.specs.Theorems.{Ready, sealing-accepted, accepts-if}
 use Rattle.mode.specs.Lasts as mode
