@@ -21,7 +21,7 @@ use Rattle.isap.specs.declared.Sliced.{Sliced}
 use Rattle.isap.specs.Records.{inputOf, machineOf, coreOf, changed, courseOf, shapesOf, frontOf, backOf, after, ran}
 use Rattle.isap.specs.Slices.{endingRight, placeRight, standsOf, lentOf, numberOf, refusalOf, answer, sliceOf, outOf}
 use Rattle.isap.specs.Reached.{Begun, law, at}
-use Rattle.isap.specs.Lasts.{begun-state, begun-session, begun-ready}
+use Rattle.isap.specs.Lasts.{state-begun, session-begun, begun-ready}
 use Rattle.isap.specs.Budgets.{Progress, sum, sliced, budgets}
 
 -- a record with t behind the first n bytes of its state, and v behind those of its session
@@ -126,10 +126,10 @@ module _ (of : ℕ → Scheme) (laws : (i : ℕ) → LawfulScheme (of i)) where
         record {
           state =
               ap (λ (u : Core Machine). drop (s .n) (u .machine .state)) e ∙ steps-leave-state s l x keyed k q (r .state) (r .session)
-              ∙ zeros-behind (s .n) 50 room (j .state) (begun-state of j assoc text out h);
+              ∙ zeros-behind (s .n) 50 room (j .state) (state-begun of j assoc text out h);
           session =
               ap (λ (u : Core Machine). drop (s .n) (u .machine .session)) e ∙ steps-leave-session s l x keyed k q (r .state) (r .session)
-              ∙ zeros-behind (s .n) 50 room (j .session) (begun-session of j assoc text out h);
+              ∙ zeros-behind (s .n) 50 room (j .session) (session-begun of j assoc text out h);
         }
 
     -- after any row of budgets

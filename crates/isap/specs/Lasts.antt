@@ -22,20 +22,20 @@ pub opening-seals-not : (direction : ℕ) → direction ≡ 2 → sealingOf dire
 opening-seals-not direction d = ne-eqb direction 1 (λ q. omega (arith, d, q))
 
 module _ (of : ℕ → Scheme) (j : Job) (assoc text out : List ℕ) (h : Begun of j assoc text out) where
-  pub begun-state : j .state ≡ replicate 50 0
+  pub state-begun : j .state ≡ replicate 50 0
   unfolding begunJob
-  begun-state = ap (λ (y : Job). y .state) (h .isBegun)
+  state-begun = ap (λ (y : Job). y .state) (h .isBegun)
 
-  pub begun-session : j .session ≡ replicate 50 0
+  pub session-begun : j .session ≡ replicate 50 0
   unfolding begunJob
-  begun-session = ap (λ (y : Job). y .session) (h .isBegun)
+  session-begun = ap (λ (y : Job). y .session) (h .isBegun)
 
   pub begun-ready : of (j .instance) .n ≤ 50 → Ready (of (j .instance)) (inputOf j assoc text) (machineOf j out)
   begun-ready room =
       let w = length-replicate {A = ℕ} 50 0 in
       record {
-        state = omega (arith, room, ap length begun-state ∙ w);
-        session = omega (arith, room, ap length begun-session ∙ w);
+        state = omega (arith, room, ap length state-begun ∙ w);
+        session = omega (arith, room, ap length session-begun ∙ w);
         out = h .outLong ∙ sym (h .textLong);
       }
 

@@ -25,7 +25,7 @@ use Rattle.instances.specs.Schemes.{schemeOf, lawful-scheme, scheme-fits}
 use Rattle.isap.specs.declared.Job.{Job}
 use Rattle.isap.specs.Records.{inputOf, machineOf, courseOf}
 use Rattle.isap.specs.Reached.{at}
-use Rattle.isap.specs.Lasts.{opening-seals-not, begun-session}
+use Rattle.isap.specs.Lasts.{opening-seals-not, session-begun}
 use Rattle.isap.specs.Beyond.{Zeroed, zeros-behind, zeros-beyond}
 use Rattle.isap.specs.Budgets.{Progress}
 use Rattle.promises.specs.Jobs.{IsapJob, ready, afterRounds, Throughout, throughout}
@@ -94,7 +94,7 @@ module _ (j : Job) (assoc text out : List ℕ) (h : IsapJob j assoc text out) wh
   session-after : (n : ℕ) → SessionAfter p x n (halted (courseOf schemeOf j assoc text) n m .session)
   unfolding courseOf schemeOf isapScheme
   session-after n =
-      let zero = begun-session schemeOf j assoc text out (h .begun) in
+      let zero = session-begun schemeOf j assoc text out (h .begun) in
       let rest = zeros-behind (p .n) 50 (scheme-fits (j .instance)) (j .session) zero in
       record {
         aside = λ f b. session-in p l x (h .key) (h .nonce) m r n f b ∙ ap (λ (v : List ℕ). macState p x ++ v) rest;
