@@ -5,16 +5,7 @@
 #include <stdlib.h>
 #include <string.h>
 
-#include "isap.h"
-
-uint64_t __real_isap_seal(uint32_t, const uint8_t *, size_t, const uint8_t *, size_t, const uint8_t *, size_t, const uint8_t *, size_t,
-                          uint8_t *, size_t, uint8_t *, size_t);
-uint64_t __real_isap_open(uint32_t, const uint8_t *, size_t, const uint8_t *, size_t, const uint8_t *, size_t, const uint8_t *, size_t,
-                          const uint8_t *, size_t, uint8_t *, size_t);
-uint64_t __wrap_isap_seal(uint32_t, const uint8_t *, size_t, const uint8_t *, size_t, const uint8_t *, size_t, const uint8_t *, size_t,
-                          uint8_t *, size_t, uint8_t *, size_t);
-uint64_t __wrap_isap_open(uint32_t, const uint8_t *, size_t, const uint8_t *, size_t, const uint8_t *, size_t, const uint8_t *, size_t,
-                          const uint8_t *, size_t, uint8_t *, size_t);
+#include "wrapped.h"
 
 static int fault(const char *name)
 {

@@ -1,19 +1,10 @@
 /* A library that leaks: stands between marked.c and the library (linked with --wrap) and lets a jump or an address depend on secret bytes,
    as the environment's LEAK says: jump or address, a hyphen, and the name of the bytes. The script `undefined` demands that memcheck sees
    each. */
-#include "isap.h"
+#include "wrapped.h"
 #include <stdio.h>
 #include <stdlib.h>
 #include <string.h>
-
-uint64_t __real_isap_seal(uint32_t, const uint8_t *, size_t, const uint8_t *, size_t, const uint8_t *, size_t, const uint8_t *, size_t,
-                          uint8_t *, size_t, uint8_t *, size_t);
-uint64_t __real_isap_open(uint32_t, const uint8_t *, size_t, const uint8_t *, size_t, const uint8_t *, size_t, const uint8_t *, size_t,
-                          const uint8_t *, size_t, uint8_t *, size_t);
-uint64_t __wrap_isap_seal(uint32_t, const uint8_t *, size_t, const uint8_t *, size_t, const uint8_t *, size_t, const uint8_t *, size_t,
-                          uint8_t *, size_t, uint8_t *, size_t);
-uint64_t __wrap_isap_open(uint32_t, const uint8_t *, size_t, const uint8_t *, size_t, const uint8_t *, size_t, const uint8_t *, size_t,
-                          const uint8_t *, size_t, uint8_t *, size_t);
 
 static volatile size_t seen;
 
