@@ -74,8 +74,9 @@ pub fn stands(job: Job) -> bool
         return false;
     }
     let sealing = job.direction == 1;
+    let back = plan::back_rounds(job.instance, sealing, job.assoc, job.text);
     let front = plan::front_rounds(job.instance, sealing, job.assoc, job.text);
-    let total = front + plan::back_rounds(job.instance, sealing, job.assoc, job.text);
+    let total = front + back;
     if total < job.done {
         return false;
     }

@@ -54,26 +54,26 @@ returns c =
     let j = c .before .before .args .job in
     sym (four j false _ _ _ (sym (c .before .limits-right .ensures) ∙ not-true _ (c .if1 .taken)) refl refl refl ∙ unfold passes in refl)
 
-front-rounds-requires : tie.Need-front-rounds-requires
-front-rounds-requires c κs =
-    let j = c .before .before .before .args .job in
-    lengths-fit (j .instance) (j .direction) (j .assoc) (j .text) (sym (c .before .before .limits-right .ensures) ∙ not-false _ (c .before .if1 .left))
-
 back-rounds-requires : tie.Need-back-rounds-requires
 back-rounds-requires c κs =
+    let j = c .before .before .before .args .job in
+    lengths-fit (j .instance) (j .direction) (j .assoc) (j .text) (sym (c .before .before .limits-right .ensures) ∙ not-false _ (c .before .if1 .left)) .1
+
+front-rounds-requires : tie.Need-front-rounds-requires
+front-rounds-requires c κs =
     let j = c .before .before .before .before .args .job in
-    lengths-fit (j .instance) (j .direction) (j .assoc) (j .text) (sym (c .before .before .before .limits-right .ensures) ∙ not-false _ (c .before .before .if1 .left)) .1
+    lengths-fit (j .instance) (j .direction) (j .assoc) (j .text) (sym (c .before .before .before .limits-right .ensures) ∙ not-false _ (c .before .before .if1 .left))
 
 add-total : tie.Need-add-total
 add-total c =
     let j = c .before .before .before .before .before .args .job in
     let t = lengths-fit (j .instance) (j .direction) (j .assoc) (j .text) (sym (c .before .before .before .before .limits-right .ensures) ∙ not-false _ (c .before .before .before .if1 .left)) in
-    omega (arith, counted j (c .before .front-rounds .result) (c .back-rounds .result) (c .before .front-rounds .ensures) (c .back-rounds .ensures) .1, total-of j (t .0) (t .1))
+    omega (arith, counted j (c .front-rounds .result) (c .before .back-rounds .result) (c .front-rounds .ensures) (c .before .back-rounds .ensures) .1, total-of j (t .0) (t .1))
 
 returns-2 : tie.Need-returns-2
 returns-2 c =
-    let b = c .before .before .back-rounds in
-    let f = c .before .before .before .front-rounds in
+    let f = c .before .before .front-rounds in
+    let b = c .before .before .before .back-rounds in
     let l = c .before .before .before .before .before in
     let j = l .before .before .args .job in
     let n = counted j (f .result) (b .result) (f .ensures) (b .ensures) in
@@ -83,8 +83,8 @@ returns-2 c =
 
 returns-3 : tie.Need-returns-3
 returns-3 c =
-    let b = c .before .before .before .before .back-rounds in
-    let f = c .before .before .before .before .before .front-rounds in
+    let f = c .before .before .before .before .front-rounds in
+    let b = c .before .before .before .before .before .back-rounds in
     let l = c .before .before .before .before .before .before .before in
     let j = l .before .before .args .job in
     let n = counted j (f .result) (b .result) (f .ensures) (b .ensures) in
@@ -102,8 +102,8 @@ place-right-requires c κs =
 
 returns-4 : tie.Need-returns-4
 returns-4 c =
-    let b = c .before .before .before .before .before .back-rounds in
-    let f = c .before .before .before .before .before .before .front-rounds in
+    let f = c .before .before .before .before .before .front-rounds in
+    let b = c .before .before .before .before .before .before .back-rounds in
     let l = c .before .before .before .before .before .before .before .before in
     let j = l .before .before .args .job in
     let n = counted j (f .result) (b .result) (f .ensures) (b .ensures) in
@@ -119,8 +119,8 @@ stands-spec =
     (tie.spec
     (λ c κs. search needs)
     returns
-    front-rounds-requires
     back-rounds-requires
+    front-rounds-requires
     add-total
     returns-2
     (λ c κs. search needs)
