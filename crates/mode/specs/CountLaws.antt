@@ -8,13 +8,13 @@ use native.Mathlib.Nat.{add-mul, mul-comm}
 use native.Mathlib.Omega.{arith}
 use lib.ListN.{length}
 use Rattle.bits.specs.Pick.{pick}
-use Rattle.stopping.specs.Parts.{roundsIn, EachSome, shapes, shapes-append, roundsIn-append, some-shapes}
-use Rattle.stopping.specs.Course.{parts, frontRounds, backRounds, Lawful}
+use Rattle.stopping.specs.Parts.{roundsIn, EachSome, shapes, roundsIn-append, some-shapes}
+use Rattle.stopping.specs.Course.{frontRounds, backRounds, Lawful}
 use Rattle.mode.specs.Params.{Params, LawfulParams}
 use Rattle.mode.specs.Paper.{blocks}
 use Rattle.scheme.specs.Machine.{Input, unlessEmpty}
 use Rattle.mode.specs.Parts.{part, keyStart, keyBits, keyEnd, texts, macStart, assocs, ciphers, macKeyStart, macKeyBits, macKeyEnd, macEnd, encParts, macParts, sealingCourse, openingCourse, course}
-use Rattle.mode.specs.Counts.{rekeyRounds, verifyRounds, encryptRounds, encShapes, macShapes, frontShapes, backShapes, allShapes, frontCount, backCount}
+use Rattle.mode.specs.Counts.{rekeyRounds, verifyRounds, encryptRounds, encShapes, macShapes, frontShapes, backShapes, frontCount, backCount}
 
 module _ (p : Params) where
   pub rounds-mac : (a m : ℕ) → roundsIn (macShapes p a m) ≡ verifyRounds p a m
@@ -61,10 +61,6 @@ module _ (p : Params) where
         go : (b : Bool) → shapes (pick b (sealingCourse p x) (openingCourse p x) .back) ≡ backShapes p b (length (x .assoc)) (length (x .text))
         go true = refl
         go false = shapes-enc
-
-    pub shapes-all : shapes (parts (course p x)) ≡ allShapes p (x .sealing) (length (x .assoc)) (length (x .text))
-    unfolding allShapes
-    shapes-all = shapes-append (course p x .front) (course p x .back) ∙ ap₂ _++_ shapes-front shapes-back
 
 -- ---- the rounds of each direction
 
@@ -115,10 +111,6 @@ module _ (p : Params) (l : LawfulParams p) where
   unfolding backShapes EachSome
   back-some true a m = tt
   back-some false a m = enc-some a m
-
-  pub all-some-shapes : (b : Bool) (a m : ℕ) → EachSome (allShapes p b a m)
-  unfolding allShapes
-  all-some-shapes b a m = some-shapes (frontShapes p b a m) (backShapes p b a m) (front-some b a m) (back-some b a m)
 
   verify-some : (a m : ℕ) → 0 < verifyRounds p a m
   unfolding verifyRounds rekeyRounds

@@ -2,31 +2,27 @@
 -- opening accepts exactly when the received tag is the recomputed one, then ends with the paper's plaintext, and until then, or after a
 -- refusal, has not touched the output.
 -- Assumes nothing.
-use mathlib.Core.Path.{_≡_, refl, sym, ap, ap₂, _∙_}
+use mathlib.Core.Path.{_≡_, sym, ap, ap₂, _∙_}
 use mathlib.Core.Bool.{Bool, true, false}
 use mathlib.Core.List.{List, _++_}
 use Prim.Native.Nat.{ℕ, _+_, _-_, _≤_}
-use native.Mathlib.Decide.{decLt}
 use native.Mathlib.Omega.{arith}
 use lib.ListN.{length, take, drop, replicate, take-append-drop}
 use lib.Seq.{length-take-le, take-append-le}
 use Rattle.bits.specs.Pick.{pick}
-use Rattle.stopping.specs.Stopped.{stopped}
 use Rattle.stopping.specs.Rows.{run, run-append}
 use Rattle.stopping.specs.Parts.{row, row-append}
 use Rattle.stopping.specs.Course.{Course, accepted, halted}
-use Rattle.stopping.specs.Halts.{halted-front, halted-accepted, halted-refused}
-use Rattle.stopping.specs.Kept.{keeps-row, keeps-stopped}
+use Rattle.stopping.specs.Halts.{halted-accepted}
 use Rattle.bits.specs.Strings.{same}
 use Rattle.bits.specs.StringLaws.{same-refl, same-true}
 use Rattle.mode.specs.Params.{Params, LawfulParams}
 use Rattle.scheme.specs.Machine.{Opened.plaintext, Opened.refused, Machine, Input, cipherOf, machine}
 use Rattle.mode.specs.Paper.{isapEnc, hashed, finished, isapMac, seal, unseal}
 use Rattle.mode.specs.PaperLaws.{enc-length, hashed-long, finished-long}
-use Rattle.mode.specs.Touches.{mac-keeps}
 use Rattle.mode.specs.Parts.{tagOf, encParts, macParts, sealingCourse, openingCourse, course}
 use Rattle.mode.specs.CountLaws.{front-rounds, back-rounds, lawful, all-count}
-use Rattle.mode.specs.Counts.{verifyRounds, encryptRounds, frontCount}
+use Rattle.mode.specs.Counts.{verifyRounds, encryptRounds}
 use Rattle.mode.specs.Ends.{encState, encState-long, mac-end, enc-end}
 
 -- a machine on which a job may be begun: room for a state and for the session bytes, and an output as long as the text
@@ -177,30 +173,3 @@ module _ (p : Params) (l : LawfulParams p) (x : Input) (hk : length (x .key) ≡
       unfolding unseal
       opening-is-paper =
           ap (λ (b : Bool). pick b (plaintext (isapEnc p (x .key) (x .nonce) (x .text))) refused) (sym opening-accepts)
-
-      -- ---- until the decision, and after a refusal for good, the output is as it was
-
-      mac-out : (n : ℕ) → stopped (row (macParts p x)) n m .out ≡ m .out
-      mac-out n = keeps-stopped (λ (k : Machine). k .out ≡ m .out) (row (macParts p x)) (keeps-row (λ (k : Machine). k .out ≡ m .out) (macParts p x) (mac-keeps p x (λ (o : List ℕ). o ≡ m .out))) n m refl
-
-      pub untouched-before : (n : ℕ) → n ≤ verifyRounds p (length (x .assoc)) (length (x .text)) → halted (course p x) n m .out ≡ m .out
-      unfolding frontCount openingCourse
-      untouched-before n h =
-          let v = front-rounds p x ∙ ap (λ (b : Bool). frontCount p b (length (x .assoc)) (length (x .text))) d in
-          ap Machine.out
-          (halted-front (course p x) (lawful p l x) m n (omega (arith, v))
-          ∙ ap (λ (c : Course Machine). stopped (row (c .front)) n m) opening-is)
-          ∙ mac-out n
-
-      pub untouched-refused : accepted (course p x) m ≡ false → (n : ℕ) → halted (course p x) n m .out ≡ m .out
-      unfolding frontCount openingCourse
-      untouched-refused e n =
-          let v = front-rounds p x ∙ ap (λ (b : Bool). frontCount p b (length (x .assoc)) (length (x .text))) d in
-          elim (decLt n (verifyRounds p (length (x .assoc)) (length (x .text)))) [
-            | yes y ↦ untouched-before n (omega arith)
-            | no f ↦
-                ap Machine.out
-                (halted-refused (course p x) (lawful p l x) m e n (omega (arith, v))
-                ∙ ap (λ (c : Course Machine). run (row (c .front)) m) opening-is
-                ∙ verified)
-          ]

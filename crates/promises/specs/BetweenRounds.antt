@@ -10,13 +10,14 @@ use borrow.Author.Tests.{eq-eqb}
 use Rattle.stopping.specs.Course.{halted}
 use Rattle.stopping.specs.Follows.{following}
 use Rattle.scheme.specs.Machine.{Machine, Input}
+use Rattle.scheme.specs.Lawful.{untouched-refused}
 use Rattle.mode.specs.Params.{Params, LawfulParams}
 use Rattle.mode.specs.Paper.{isapEnc, isapMac, seal}
 use Rattle.mode.specs.Counts.{rekeyRounds, verifyRounds, encryptRounds}
 use Rattle.mode.specs.InstanceLaws.{lawful-instance}
 use Rattle.mode.specs.Instances.{paramsOf}
-use Rattle.mode.specs.Isap.{isapScheme}
-use Rattle.mode.specs.Theorems.{Ready, sealing-tag, accepts-if, untouched-refused}
+use Rattle.mode.specs.Isap.{isapScheme, lawful-isap}
+use Rattle.mode.specs.Theorems.{Ready, sealing-tag, accepts-if}
 use Rattle.mode.specs.Lasts.{refuses-if}
 use Rattle.mode.specs.Between.{blocksWritten, asideAfter, macState}
 use Rattle.mode.specs.Outputs.{sealing-out-after, opening-out-at}
@@ -122,7 +123,7 @@ module _ (j : Job) (assoc text out : List ℕ) (h : IsapJob j assoc text out) wh
       (λ n.
       record {
         right = λ e. opening-out-at p l x (h .key) (h .nonce) m r opens (accepts-if p l x (h .key) (h .nonce) m r opens e) n;
-        wrong = λ e. untouched-refused p l x (h .key) (h .nonce) m r opens (refuses-if p l x (h .key) (h .nonce) m r opens e) n;
+        wrong = λ e. untouched-refused (isapScheme p) (lawful-isap p l) x opens m (refuses-if p l x (h .key) (h .nonce) m r opens e) n;
         session = session-after n;
       })
 
