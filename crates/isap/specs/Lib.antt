@@ -17,3 +17,4 @@ pub mod Begins
 pub mod Promises
 pub mod Lasts
 pub mod Beyond
+pub mod Above

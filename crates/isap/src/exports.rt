@@ -6,7 +6,7 @@ ghost use Rattle.isap.specs.Statements.{PlansVerify, PlansTotal, SealsIn
 use crate::whole;
 
 // The number in the low 32 bits, the rounds in the high 32.
-fn pack(number: u32, rounds: u32) -> u64
+pub fn pack(number: u32, rounds: u32) -> u64
     ensures { λ r. ⌜ r ≡ packed number rounds ⌝ }
 {
     number as u64 + 4294967296 * rounds as u64
