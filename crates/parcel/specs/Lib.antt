@@ -5,3 +5,10 @@ pub mod Reading
 pub mod Opening
 pub mod Statements
 pub mod Readings
+pub mod Fits
+pub mod Own
+pub mod Headers
+pub mod Back
+pub mod Again
+pub mod Refused
+pub mod Determined

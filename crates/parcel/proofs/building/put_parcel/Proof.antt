@@ -7,17 +7,17 @@ use native.Mathlib.Omega.{arith}
 use lib.ListN.{length, replicate, take, drop}
 use borrow.Author.Needs.{needs}
 use Rattle.bits.specs.Part.{length-part}
-use Rattle.instances.specs.Schemes.{schemeOf}
+use Rattle.instances.specs.Schemes.{schemeOf, lawful-scheme}
 use Rattle.isap.specs.Statements.{Seals}
 use Rattle.parcel.specs.Layout.{nonceOf, parcelOf}
 use Rattle.parcel.specs.Layouts.{header-long}
-use Rattle.parcel.specs.Building.{sealedUnder}
-use Rattle.parcel.proofs.Pieces.{put-together, cipher-long, tag-long, sealed-parts}
+use Rattle.parcel.specs.Fits.{cipher-long, tag-long, sealed-parts}
+use Rattle.parcel.proofs.Pieces.{put-together}
 use Rattle.parcel.proofs.building.put_parcel.Statement.{statement}
 use Rattle.parcel.proofs.building.put_parcel.Tie as tie
 
 returns : tie.Need-returns
-unfolding parcelOf sealedUnder
+unfolding parcelOf
 returns c =
     let c2 = c .before .before in
     let c1 = c2 .before .before .before .before .before in
@@ -38,12 +38,12 @@ returns c =
     let same : 15 + m - 15 ≡ m = omega arith in
     let room : length (take (15 + m - 15) (drop 15 o)) ≡ m = ap (λ (k : ℕ). length (take k (drop 15 o))) same ∙ length-part o 15 m (omega (arith, can .outLong)) in
     let parts =
-    sealed-parts f key text o can (take (15 + m - 15) (drop 15 o)) (replicate 16 0) room refl (s .seal .result) x t
+    sealed-parts schemeOf lawful-scheme f key text (length o) can (take (15 + m - 15) (drop 15 o)) (replicate 16 0) room refl (s .seal .result) x t
     (subst (λ (w : List ℕ). Seals schemeOf (f .instance) key (nonceOf (f .station) (f .counter)) w text (take (15 + m - 15) (drop 15 o)) (replicate 16 0) (s .seal .result) x t) (g .header .ensures)
     (subst (λ (w : List ℕ). Seals schemeOf (f .instance) key w h text (take (15 + m - 15) (drop 15 o)) (replicate 16 0) (s .seal .result) x t) (n .nonce .ensures) (s .seal .ensures))) in
     let whole =
-    put-together o h x t m (can .outLong) (ap length (g .header .ensures) ∙ header-long f) (ap length (parts .1) ∙ cipher-long f key text o can)
-    (ap length (parts .2) ∙ tag-long f key text o can) (c1 .copy .last .1 .0) (c2 .copy2 .last .1 .0) (c1 .copy .ensures .1) (c2 .copy2 .ensures .1) in
+    put-together o h x t m (can .outLong) (ap length (g .header .ensures) ∙ header-long f) (ap length (parts .1) ∙ cipher-long schemeOf lawful-scheme f key text (length o) can)
+    (ap length (parts .2) ∙ tag-long schemeOf lawful-scheme f key text (length o) can) (c1 .copy .last .1 .0) (c2 .copy2 .last .1 .0) (c1 .copy .ensures .1) (c2 .copy2 .ensures .1) in
     (parts .0, whole ∙ ap₂ (λ (u v : List ℕ). u ++ v) (ap₂ (λ (u v : List ℕ). u ++ v) (g .header .ensures) (parts .1)) (parts .2))
 
 pub put-parcel-spec : {M : Type 1} → statement M

@@ -8,16 +8,14 @@ use Rattle.instances.specs.Schemes.{schemeOf}
 use Rattle.isap.specs.declared.Answer.{Answer}
 use Rattle.parcel.specs.declared.Fields.{Fields}
 use Rattle.parcel.specs.declared.Reading.{Reading}
-use Rattle.parcel.specs.declared.Reading.the-variants.{Whole, Refused}
+use Rattle.parcel.specs.declared.Reading.the-variants.{Whole}
 use Rattle.parcel.specs.Reading.{readOf, numberOf}
 use Rattle.parcel.specs.Readings.{body-there}
 use Rattle.parcel.specs.Opening.{openBy, outBy}
+use Rattle.parcel.specs.Refused.{opening-refused}
 use Rattle.parcel.specs.Statements.{OpensWhole, OpensParcel}
 use Rattle.parcel.proofs.opening.open.Statement.{statement}
 use Rattle.parcel.proofs.opening.open.Tie as tie
-
-refused : (key p out : List ℕ) (n : ℕ) → readOf p ≡ Refused n → OpensParcel schemeOf key p out (record { number = n; rounds = 0 }) out
-refused key p out n e = (sym (ap (λ (r : Reading). openBy schemeOf r key p out) e), sym (ap (λ (r : Reading). outBy schemeOf r key p out) e))
 
 opened : (key p out : List ℕ) (f : Fields) (r : Answer) (out′ : List ℕ) → readOf p ≡ Whole f → OpensWhole schemeOf key f p out r out′ → OpensParcel schemeOf key p out r out′
 opened key p out f r out′ e h = (h .0 ∙ sym (ap (λ (q : Reading). openBy schemeOf q key p out) e), h .1 ∙ sym (ap (λ (q : Reading). outBy schemeOf q key p out) e))
@@ -30,7 +28,7 @@ returns c =
     let a = r .before .before .before .before .args in
     let is = t .enum-told .given .1 in
     subst (λ (n : ℕ). OpensParcel schemeOf (a .key .now) (a .parcel .now) (a .out .now) (record { number = n; rounds = 0 }) (a .out .now)) (sym (c .number-of .ensures ∙ ap numberOf is))
-    (refused (a .key .now) (a .parcel .now) (a .out .now) (t .enum-told .given .0 .0) (sym (r .read .ensures) ∙ is))
+    (opening-refused (a .parcel .now) (t .enum-told .given .0 .0) (sym (r .read .ensures) ∙ is) schemeOf (a .key .now) (a .out .now))
 
 open-whole-requires : tie.Need-open-whole-requires
 open-whole-requires c κs =
