@@ -1,4 +1,4 @@
-/* The three jobs of the program. Each gives an exit status, its message printed. */
+/* The jobs of the program. Each gives an exit status, its message printed. */
 #ifndef JOBS_H
 #define JOBS_H
 
@@ -7,5 +7,9 @@
 int run_seal(const struct options *options);
 int run_open(const struct options *options);
 int run_plan(const struct options *options);
+
+int run_parcel_build(const struct options *options);
+int run_parcel_open(const struct options *options);
+int run_parcel_show(const struct options *options);
 
 #endif

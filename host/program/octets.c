@@ -39,6 +39,6 @@ void forget(char *string)
 
 __attribute__((noinline)) void wipe_used_stack(void)
 {
-    uint8_t used[ISAP_STACK_BYTES];
+    uint8_t used[ISAP_STACK_BYTES > PARCEL_STACK_BYTES ? ISAP_STACK_BYTES : PARCEL_STACK_BYTES];
     wipe(used, sizeof used);
 }

@@ -6,10 +6,10 @@
 #include <stddef.h>
 #include <stdint.h>
 
-#include "isap.h"
+#include "parcel.h"
 
-/* One byte more than the longest sealed text: what is too long stays too long, and the library refuses it. */
-#define OCTETS_ROOM (ISAP_TEXT_MAX + ISAP_TAG_BYTES + 1)
+/* One byte more than a parcel of the longest text: what is too long stays too long, and the library refuses it. */
+#define OCTETS_ROOM (ISAP_TEXT_MAX + PARCEL_ADDED_BYTES + 1)
 
 struct octets {
     uint8_t at[OCTETS_ROOM];

@@ -1,5 +1,6 @@
 #include "options.h"
 
+#include <stdbool.h>
 #include <stdio.h>
 #include <string.h>
 #include <strings.h>
@@ -15,6 +16,8 @@ static const char *const names[OPTION_COUNT] = {
     [OPTION_ASSOC] = "--assoc",
     [OPTION_ASSOC_FILE] = "--assoc-file",
     [OPTION_TEXT] = "--text",
+    [OPTION_STATION] = "--station",
+    [OPTION_LAST] = "--last",
     [OPTION_IN] = "--in",
     [OPTION_OUT] = "--out",
 };
@@ -50,20 +53,45 @@ int read_options(struct options *into, unsigned allowed, char **words)
     return STATUS_WELL;
 }
 
+/* Reads decimal digits; false where the number is above the largest, which is 9 or more and is taken in its place. */
+static bool fits(uint64_t *into, uint64_t largest, const char *digits)
+{
+    for (*into = 0; *digits != '\0'; digits++) {
+        uint64_t digit = (uint64_t)(*digits - '0');
+        if (*into > (largest - digit) / 10) {
+            *into = largest;
+            return false;
+        }
+        *into = 10 * *into + digit;
+    }
+    return true;
+}
+
+/* Whether a word is there and a number: an exit status, its message printed. */
+static int checked_number(const char *name, const char *word)
+{
+    if (word == NULL)
+        return misused("missing", name);
+    bool number = word[0] != '\0' && strspn(word, "0123456789") == strlen(word);
+    return number ? STATUS_WELL : misused("not a number", word);
+}
+
 int read_number(uint32_t *into, const char *name, const char *word)
 {
     uint64_t value = 0;
-    if (word == NULL)
-        return misused("missing", name);
-    if (word[0] == '\0' || strspn(word, "0123456789") != strlen(word))
-        return misused("not a number", word);
-    for (; *word != '\0'; word++) {
-        value = 10 * value + (uint64_t)(*word - '0');
-        if (value > UINT32_MAX)
-            value = UINT32_MAX;
-    }
+    int status = checked_number(name, word);
+    if (status == STATUS_WELL)
+        fits(&value, UINT32_MAX, word);
     *into = (uint32_t)value;
-    return STATUS_WELL;
+    return status;
+}
+
+int read_number_up_to(uint64_t *into, uint64_t largest, const char *name, const char *word)
+{
+    int status = checked_number(name, word);
+    if (status == STATUS_WELL && !fits(into, largest, word))
+        status = misused("too large", word);
+    return status;
 }
 
 int read_instance(uint32_t *into, const struct options *options)

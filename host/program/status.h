@@ -1,4 +1,4 @@
-/* The program's exit statuses: 0, the library's refusals 1 to 8, and two of its own above them. */
+/* The program's exit statuses: 0, the libraries' refusals (isap.h, parcel.h), and two of its own above them. */
 #ifndef STATUS_H
 #define STATUS_H
 
