@@ -3,8 +3,8 @@
 #include "isap.h"
 #include "random.h"
 
-/* Mostly short, now and then any length up to the largest, and the lengths at the edges of blocks. */
-static size_t draw_length(uint32_t largest)
+/* Now and then any length up to the largest, and the lengths at the edges of blocks. */
+size_t draw_length(uint32_t largest)
 {
     static const uint32_t edges[] = {0, 7, 8, 9, 16, 17, 18, 19, 36, 252, 255, 256, 4086, 4095, 4096};
     uint32_t edge = edges[random_below(sizeof edges / sizeof edges[0])];
@@ -31,7 +31,7 @@ struct lengths draw_lengths(void)
     return lengths;
 }
 
-static size_t draw_other_than(size_t right, uint32_t below)
+size_t draw_other_than(size_t right, uint32_t below)
 {
     size_t drawn = random_below(below);
     return drawn == right ? below : drawn;

@@ -8,7 +8,11 @@
 uint32_t draw_instance(void);
 uint32_t draw_unknown_instance(void);
 
-/* Lengths that the library takes, mostly short. */
+/* A length up to the largest, mostly short, and one that is not the right one. */
+size_t draw_length(uint32_t largest);
+size_t draw_other_than(size_t right, uint32_t below);
+
+/* Lengths that the library takes. */
 struct lengths draw_lengths(void);
 
 /* Makes one or several things wrong. */

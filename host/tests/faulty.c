@@ -5,15 +5,16 @@
 #include <stdlib.h>
 #include <string.h>
 
+#include "faulty.h"
 #include "wrapped.h"
 
-static int fault(const char *name)
+bool fault(const char *name)
 {
     const char *wanted = getenv("FAULT");
     return wanted != NULL && strcmp(wanted, name) == 0;
 }
 
-static void flip(const uint8_t *at)
+void flip(const uint8_t *at)
 {
     *(uint8_t *)(uintptr_t)at ^= 0x20;
 }

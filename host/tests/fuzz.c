@@ -13,12 +13,12 @@
 #include "isap.h"
 #include "lent.h"
 #include "random.h"
+#include "run.h"
 
-enum { NUMBERS = 9, SEALINGS_FOR_EACH_LINE = 16 };
+enum { SEALINGS_FOR_EACH_LINE = 16 };
 
 static struct call call;
-static unsigned long calls, sealings, lines, answers[2][NUMBERS];
-static FILE *samples;
+static unsigned long sealings, answers[2][RUN_NUMBERS];
 
 /* Ends the run at the first thing that is wrong. */
 static void hold(bool holds, const char *what)
@@ -52,31 +52,16 @@ static void refused_calls(void)
     hold(inputs_unchanged(&call) && unchanged(&call.out) && unchanged(&call.tag), "a refusal changed a byte");
 }
 
-static void write_digits(const struct lent *lent)
-{
-    for (size_t i = 0; i < lent->len; i++)
-        fprintf(samples, "%02x", lent->at[i]);
-}
-
-static void write_field(const struct lent *lent)
-{
-    if (lent->len == 0)
-        fputc('-', samples);
-    write_digits(lent);
-    fputc(' ', samples);
-}
-
 static void write_sealing(void)
 {
-    fprintf(samples, "%" PRIu32 " ", call.instance);
+    write_number(call.instance);
     write_field(&call.key);
     write_field(&call.nonce);
     write_field(&call.assoc);
     write_field(&call.text);
     write_digits(&call.out);
     write_digits(&call.tag);
-    fputc('\n', samples);
-    lines++;
+    end_line();
 }
 
 static void sealed_call(const struct lengths *lengths)
@@ -135,38 +120,23 @@ static void planned_calls(void)
     hold(isap_rounds(total) == (number == 0 ? rules_total(instance, assoc, text) : 0), "total of a plan");
 }
 
-static void print_summary(const char *path)
+static void make_calls(void)
 {
-    static const char *const directions[] = {"seal", "open"};
+    if (random_below(8) < 5)
+        refused_calls();
+    else
+        accepted_calls();
+    planned_calls();
+}
+
+static void print_summary(void)
+{
     printf("fuzz: %lu calls as the rules have them\n", calls);
-    for (int direction = 0; direction < 2; direction++) {
-        printf("  isap_%s", directions[direction]);
-        for (int number = 0; number < NUMBERS; number++)
-            printf("  %d: %lu", number, answers[direction][number]);
-        printf("\n");
-    }
-    printf("  %lu sealings written to %s\n", lines, path);
+    print_answers("isap_seal", answers[0]);
+    print_answers("isap_open", answers[1]);
 }
 
 int main(int count, char **words)
 {
-    if (count != 4 || (samples = fopen(words[3], "w")) == NULL) {
-        fprintf(stderr, "usage: fuzz CALLS SEED FILE\n");
-        return 2;
-    }
-    unsigned long wanted = strtoul(words[1], NULL, 10);
-    random_begin(strtoull(words[2], NULL, 10));
-    while (calls < wanted) {
-        if (random_below(8) < 5)
-            refused_calls();
-        else
-            accepted_calls();
-        planned_calls();
-    }
-    if (fclose(samples) != 0) {
-        fprintf(stderr, "fuzz: cannot write %s\n", words[3]);
-        return 2;
-    }
-    print_summary(words[3]);
-    return 0;
+    return random_run(count, words, make_calls, print_summary);
 }

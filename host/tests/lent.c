@@ -1,9 +1,12 @@
 #include "lent.h"
 
 #include <string.h>
+#include <sys/mman.h>
 
 #include "isap.h"
 #include "random.h"
+
+static const size_t MUCH = ((size_t)1 << 32) + LENT_GUARD;
 
 void remember(struct lent *lent)
 {
@@ -23,6 +26,17 @@ void lend_bytes(struct lent *lent, const uint8_t *bytes, size_t len)
     lend(lent, len);
     memmove(lent->at, bytes, len);
     remember(lent);
+}
+
+uint8_t *lend_much(void)
+{
+    uint8_t *much = mmap(NULL, MUCH, PROT_READ | PROT_WRITE, MAP_PRIVATE | MAP_ANONYMOUS | MAP_NORESERVE, -1, 0);
+    return much == MAP_FAILED ? NULL : much;
+}
+
+void give_back_much(uint8_t *much)
+{
+    munmap(much, MUCH);
 }
 
 void damage(struct lent *lent)

@@ -29,6 +29,10 @@ void lend(struct lent *lent, size_t len);
 /* Lends these bytes. */
 void lend_bytes(struct lent *lent, const uint8_t *bytes, size_t len);
 
+/* 2^32 zero bytes and some more, for lengths of more than 32 bits; null where there is no room. */
+uint8_t *lend_much(void);
+void give_back_much(uint8_t *much);
+
 /* Takes the bytes as they are now for those before the call. */
 void remember(struct lent *lent);
 

@@ -1,7 +1,6 @@
 /* The library through C: every number from 0 to 8 with what it leaves, the order of refusals, and document 01's table of rounds. */
 #include <errno.h>
 #include <string.h>
-#include <sys/mman.h>
 
 #include "checks.h"
 #include "isap.h"
@@ -64,9 +63,9 @@ static void lengths_above_32_bits(void)
 {
     const size_t over = (size_t)1 << 32;
     uint8_t out[16] = {0}, tag[16] = {0};
-    const uint8_t *much = mmap(NULL, over + 16, PROT_READ, MAP_PRIVATE | MAP_ANONYMOUS | MAP_NORESERVE, -1, 0);
-    check(much != MAP_FAILED);
-    if (much == MAP_FAILED)
+    uint8_t *much = lend_much();
+    check(much != NULL);
+    if (much == NULL)
         return;
     check(isap_seal(1, much, over + 16, much, 16, much, 0, much, 8, out, 8, tag, 16) == ISAP_BAD_KEY);
     check(isap_seal(1, much, 16, much, over + 16, much, 0, much, 8, out, 8, tag, 16) == ISAP_BAD_NONCE);
@@ -74,7 +73,7 @@ static void lengths_above_32_bits(void)
     check(isap_seal(1, much, 16, much, 16, much, 0, much, over + 8, out, 8, tag, 16) == ISAP_LONG_TEXT);
     check(isap_open(1, much, 16, much, 16, much, 0, much, 8, much, over + 16, out, 8) == ISAP_BAD_TAG);
     check(isap_open(1, much, 16, much, 16, much, over + 1, much, over, much, 16, out, 8) == ISAP_LONG_ASSOC);
-    munmap((void *)(uintptr_t)much, over + 16);
+    give_back_much(much);
 }
 
 static void answers(uint64_t answer, uint32_t number, uint32_t rounds)
