@@ -20,7 +20,7 @@ use Rattle.parcel.specs.declared.Fields.{Fields}
 use Rattle.parcel.specs.declared.Reading.{Reading}
 use Rattle.parcel.specs.declared.Reading.the-variants.{Whole, Refused}
 use Rattle.parcel.specs.Layout.{nonceOf, mostCarried, mostCounter}
-use Rattle.parcel.specs.Reading.{part, marked, fieldsIn, unless, readOf, numberOf}
+use Rattle.parcel.specs.Reading.{part, marked, fieldsIn, unless, readOf, numberOf, fieldsOf}
 use Rattle.parcel.specs.Building.{buildRefusal, refusal, builtOf}
 use Rattle.parcel.specs.Opening.{openBy, outBy}
 use Rattle.parcel.specs.Statements.{Reads, IsPart, GivesCipher, GivesTag, Builds, OpensParcel, BuildsInC, OpensParcelInC}
@@ -38,9 +38,12 @@ one-cipher p r r′ h k = one-part p r r′ _ _ h k
 pub one-tag : (p r r′ : RefT (List ℕ)) → GivesTag p r → GivesTag p r′ → (now r ≡ now r′) × (r .ptr ≡ r′ .ptr)
 one-tag p r r′ h k = one-part p r r′ _ _ h k
 
--- a number or a field that is told is the one that its definition gives
-pub one-told : (x r r′ : ℕ) → r ≡ x → r′ ≡ x → r ≡ r′
-one-told x r r′ h k = h ∙ sym k
+-- of what `read` gave, and of a field that a host in C is told
+pub one-number : (x r r′ : ℕ) → r ≡ x → r′ ≡ x → r ≡ r′
+one-number x r r′ h k = h ∙ sym k
+
+pub one-fields : (w : Reading) (r r′ : Fields) → r ≡ fieldsOf w → r′ ≡ fieldsOf w → r ≡ r′
+one-fields w r r′ h k = h ∙ sym k
 
 module _ (of : ℕ → Scheme) where
   module _ (instance : ℕ) (key : List ℕ) (station last : ℕ) (text out : List ℕ) where

@@ -11,6 +11,10 @@ use crate::layout::MOST_CARRIED;
 use crate::layout::SECOND_MARK;
 use crate::layout::number_at;
 
+const WRONG_MARK: u32 = 12;
+
+const CUT_SHORT: u32 = 14;
+
 fn is_marked(parcel: &[u8]) -> bool
     requires { ⌜ 2 ≤ length (now parcel) ⌝ }
     ensures { λ r. ⌜ r ≡ marked (now (parcel .entry)) ⌝ }
@@ -38,13 +42,13 @@ pub fn read(parcel: &[u8]) -> Reading
     ensures { λ r. ⌜ Reads (now (parcel .entry)) r ⌝ }
 {
     if parcel.len() < 2 {
-        return Reading::Refused(14);
+        return Reading::Refused(CUT_SHORT);
     }
     if !is_marked(parcel) {
-        return Reading::Refused(12);
+        return Reading::Refused(WRONG_MARK);
     }
     if parcel.len() < 15 {
-        return Reading::Refused(14);
+        return Reading::Refused(CUT_SHORT);
     }
     let fields = fields_in(parcel);
     if !isap::is_known(fields.instance) {
@@ -54,7 +58,7 @@ pub fn read(parcel: &[u8]) -> Reading
         return Reading::Refused(5);
     }
     if parcel.len() < 31 + fields.text as usize {
-        return Reading::Refused(14);
+        return Reading::Refused(CUT_SHORT);
     }
     Reading::Whole(fields)
 }
