@@ -1,10 +1,10 @@
 /* One call of the library on bytes from the command line, for counting instructions. Whatever the bytes are, the program itself does
    the same work: hex digits are read and written without a branch, and strings of equal length take equal steps.
 
-   probe seal|open|idle INSTANCE ASSOC_LEN TEXT_LEN HEX
-   HEX is key, nonce, tag, associated data, text; seal does not read the tag, and idle makes no call. Prints the answer's number, the
-   output and the tag. */
-#include "isap.h"
+   probe seal|open|build|unpack|idle INSTANCE ASSOC_LEN TEXT_LEN HEX
+   HEX is key, nonce, tag, associated data, text. seal and build do not read the tag; build and unpack, of a parcel with counter 42 of
+   station 12, read neither nonce nor associated data; idle makes no call. Prints the answer's number, the output and the tag. */
+#include "parcel.h"
 #include <stdio.h>
 #include <stdlib.h>
 #include <string.h>
@@ -34,6 +34,26 @@ static void print_hex(const uint8_t *from, size_t len)
     fwrite(line, 1, 2 * len + 1, stdout);
 }
 
+enum { STATION = 12, LAST = 41, ADDED = PARCEL_ADDED_BYTES, HEADER = PARCEL_HEADER_BYTES };
+
+/* Seals text and gives ciphertext and tag, or opens these, by way of a parcel. */
+static uint64_t in_a_parcel(int builds, uint32_t instance, const uint8_t *key, const uint8_t *text, size_t m, uint8_t *out, uint8_t *tag)
+{
+    static uint8_t parcel[TEXT + ADDED] = {0xA7, 0x5C, 0, 0, STATION, 0, 0, 0, 0, 0, 0, 0, LAST + 1};
+    if (builds) {
+        uint64_t answer = parcel_build(instance, key, STRING, STATION, LAST, text, m, parcel, m + ADDED);
+        memcpy(out, parcel + HEADER, m);
+        memcpy(tag, parcel + HEADER + m, STRING);
+        return answer;
+    }
+    parcel[2] = (uint8_t)instance;
+    parcel[13] = (uint8_t)(m >> 8);
+    parcel[14] = (uint8_t)m;
+    memcpy(parcel + HEADER, text, m);
+    memcpy(parcel + HEADER + m, tag, STRING);
+    return parcel_open(key, STRING, parcel, m + ADDED, out, m);
+}
+
 int main(int argc, char **argv)
 {
     static uint8_t in[INPUT], out[TEXT];
@@ -51,6 +71,8 @@ int main(int argc, char **argv)
         answer = isap_seal(instance, key, STRING, nonce, STRING, assoc, a, text, m, out, m, tag, STRING);
     if (strcmp(argv[1], "open") == 0)
         answer = isap_open(instance, key, STRING, nonce, STRING, assoc, a, text, m, tag, STRING, out, m);
+    if (strcmp(argv[1], "build") == 0 || strcmp(argv[1], "unpack") == 0)
+        answer = in_a_parcel(argv[1][0] == 'b', instance, key, text, m, out, tag);
     uint8_t number = (uint8_t)answer;
     print_hex(&number, 1);
     print_hex(out, m);

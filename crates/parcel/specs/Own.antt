@@ -1,13 +1,15 @@
 -- Reading, the parts and opening depend on the parcel's own bytes alone: not on what follows them in the buffer.
 -- Assumes nothing.
-use mathlib.Core.Path.{_≡_, sym, ap, ap₂, _∙_, subst}
-use mathlib.Core.Bool.{_&&_}
-use mathlib.Core.List.{List}
+use mathlib.Core.Path.{_≡_, refl, sym, ap, ap₂, _∙_, subst}
+use mathlib.Core.Logic.{_⊎_, inl, inr}
+use mathlib.Core.Bool.{Bool, true, false, _&&_}
+use mathlib.Core.List.{List, _++_}
 use Prim.Native.Nat.{ℕ, _+_, _≤_, _<_}
 use native.Mathlib.Omega.{arith}
-use lib.Dec.{eqb}
-use lib.ListN.{length, getD, take, length-take}
-use lib.Seq.{getD-take}
+use lib.Dec.{eqb, leb}
+use lib.ListN.{length, getD, take, length-take, length-append}
+use lib.Seq.{getD-take, take-append-le}
+use borrow.Author.Tests.{leb-true, le-leb}
 use Rattle.bits.specs.BigEndian.{fromBe}
 use Rattle.bits.specs.Part.{part-take}
 use Rattle.scheme.specs.Scheme.{Scheme}
@@ -16,9 +18,9 @@ use Rattle.isap.specs.declared.Answer.{Answer}
 use Rattle.isap.specs.Whole.{openOf, openOut}
 use Rattle.parcel.specs.declared.Fields.{Fields}
 use Rattle.parcel.specs.declared.Reading.{Reading}
-use Rattle.parcel.specs.declared.Reading.the-variants.{Whole}
+use Rattle.parcel.specs.declared.Reading.the-variants.{Whole, Refused}
 use Rattle.parcel.specs.Layout.{nonceOf, mostCarried}
-use Rattle.parcel.specs.Reading.{part, marked, fieldsIn, readOf}
+use Rattle.parcel.specs.Reading.{part, marked, fieldsIn, unless, readOf}
 use Rattle.parcel.specs.Readings.{is-whole, reads-whole, body-there}
 use Rattle.parcel.specs.Opening.{openBy, outBy}
 use Rattle.parcel.specs.Statements.{OpensParcel}
@@ -86,3 +88,40 @@ module _ (p q : List ℕ) (f : Fields) (read : readOf p ≡ Whole f) (same : tak
       writes =
           ap (λ (w : Reading). outBy of w key p out) read
           ∙ sym (ap (λ (w : Reading). outBy of w key q out) own-bytes ∙ (λ i. openOut of (f .instance) key (nonceOf (f .station) (f .counter)) (own-header i) (own-cipher i) (own-tag i) out))
+
+-- ---- a buffer that is refused otherwise than for being cut short: so is every buffer that begins with it
+
+why : (a b c d e g : Bool) (f : Fields) (n : ℕ) → (n ≡ 14 → ⊥) → unless a 14 (unless b 12 (unless c 14 (unless d 1 (unless e 5 (unless g 14 (Whole f)))))) ≡ Refused n
+    → ((a ≡ true) × (b ≡ false) × (12 ≡ n)) ⊎ (((a ≡ true) × (b ≡ true) × (c ≡ true)) × (((d ≡ false) × (1 ≡ n)) ⊎ ((d ≡ true) × (e ≡ false) × (5 ≡ n))))
+why true false c d e g f n h q = inl (refl, refl, cc)
+why true true true false e g f n h q = inr ((refl, refl, refl), inl (refl, cc))
+why true true true true false g f n h q = inr ((refl, refl, refl), inr (refl, refl, cc))
+why false b c d e g f n h q = absurd (h (cc))
+why true true false d e g f n h q = absurd (h (cc))
+why true true true true true false f n h q = absurd (h (cc))
+why true true true true true true f n h q = absurd (let z : _≡_ {A = ℕ} 0 1 = cc in omega arith)
+
+pub stays-refused : (p rest : List ℕ) (n : ℕ) → (n ≡ 14 → ⊥) → readOf p ≡ Refused n → readOf (p ++ rest) ≡ Refused n
+unfolding readOf
+stays-refused p rest n h q =
+    by-cause (why (leb 2 (length p)) (marked p) (leb 15 (length p)) (known (fieldsIn p .instance)) (leb (fieldsIn p .text) mostCarried) (leb (31 + fieldsIn p .text) (length p)) (fieldsIn p) n h q)
+  where
+    longer : (k : ℕ) → leb k (length p) ≡ true → leb k (length (p ++ rest)) ≡ true
+    longer k e = le-leb k (length (p ++ rest)) (omega (arith, leb-true k (length p) e, length-append p rest))
+
+    same : (k : ℕ) → leb k (length p) ≡ true → take k (p ++ rest) ≡ take k p
+    same k e = take-append-le k p rest (leb-true k (length p) e)
+
+    mark : leb 2 (length p) ≡ true → marked (p ++ rest) ≡ marked p
+    mark e = same-mark p (p ++ rest) 2 (same 2 e) (omega arith)
+
+    fields : leb 15 (length p) ≡ true → fieldsIn (p ++ rest) ≡ fieldsIn p
+    fields e = same-fields p (p ++ rest) 15 (same 15 e) (omega arith)
+
+    by-cause : ((leb 2 (length p) ≡ true) × (marked p ≡ false) × (12 ≡ n))
+        ⊎ (((leb 2 (length p) ≡ true) × (marked p ≡ true) × (leb 15 (length p) ≡ true))
+        × (((known (fieldsIn p .instance) ≡ false) × (1 ≡ n)) ⊎ ((known (fieldsIn p .instance) ≡ true) × (leb (fieldsIn p .text) mostCarried ≡ false) × (5 ≡ n))))
+        → readOf (p ++ rest) ≡ Refused n
+    by-cause (inl t) = rw (longer 2 (t .0), mark (t .0) ∙ t .1) (ap Refused (t .2))
+    by-cause (inr (t, inl u)) = rw (longer 2 (t .0), mark (t .0) ∙ t .1, longer 15 (t .2), fields (t .2), u .0) (ap Refused (u .1))
+    by-cause (inr (t, inr u)) = rw (longer 2 (t .0), mark (t .0) ∙ t .1, longer 15 (t .2), fields (t .2), u .0, u .1) (ap Refused (u .2))

@@ -25,8 +25,14 @@ loop-holds : tie.Need-loop-holds Inv-loop μ-loop
 unfolding beBytes
 loop-holds c =
     let a = c .args in
-    let none : a .count - a .count ≡ 0 = omega arith in
-    (omega arith, refl, rw none (sym (div-one (a .n))), rw none (sym (take-append-drop (a .at + a .count) (a .bytes .now))))
+    let s = a .bytes .now in
+    let e = a .at + a .count in
+    let none : a .count - a .count ≡ 0 = omega arith in (
+      omega arith,
+      refl,
+      sym (ap (λ (k : ℕ). a .n / 256 ^ k) none ∙ div-one (a .n)),
+      sym (ap (λ (k : ℕ). take e s ++ (beBytes k (a .n) ++ drop e s)) none ∙ take-append-drop e s),
+    )
 
 loop-again : tie.Need-loop-again Inv-loop μ-loop
 loop-again c =
