@@ -1,15 +1,15 @@
 // A beginning as the case file has it: what is lent, the number and the record that it must hand out.
-use crate::filling::Room;
-use crate::filling::filled;
 use crate::jobs;
 use crate::jobs::Went;
-use crate::reading;
 use crate::records::same_record;
-use crate::strings::first;
-use crate::verdict;
-use crate::verdict::NUMBER;
-use crate::verdict::RECORD;
-use crate::verdict::ROUNDS;
+use crate::room::Room;
+use crate::room::filled;
+use case_file::reading;
+use case_file::strings::first;
+use case_file::verdict;
+use case_file::verdict::NUMBER;
+use case_file::verdict::RECORD;
+use case_file::verdict::ROUNDS;
 use isap::Begun;
 
 // The tag that is lent: 16 bytes from the file, with zeros behind them.

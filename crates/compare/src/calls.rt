@@ -1,8 +1,8 @@
 // Whole calls with what stands at the start of a room's buffers.
-use crate::filling::Room;
-use crate::strings::first;
-use crate::strings::within;
-use crate::verdict::Said;
+use crate::room::Room;
+use case_file::strings::first;
+use case_file::strings::within;
+use case_file::verdict::Said;
 
 // The instance and the lengths that are lent.
 pub struct Lent {

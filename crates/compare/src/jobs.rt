@@ -1,17 +1,17 @@
 // Jobs in slices, begun or forged: after each slice number, rounds, the whole record and the whole output are compared.
-use crate::filling::Room;
-use crate::filling::filled;
-use crate::reading;
 use crate::records::record;
 use crate::records::same_record;
-use crate::strings::first;
-use crate::strings::same;
-use crate::strings::within;
-use crate::verdict;
-use crate::verdict::OUTPUT;
-use crate::verdict::RECORD;
-use crate::verdict::Said;
-use crate::verdict::Verdict;
+use crate::room::Room;
+use crate::room::filled;
+use case_file::reading;
+use case_file::strings::first;
+use case_file::strings::same;
+use case_file::strings::within;
+use case_file::verdict;
+use case_file::verdict::OUTPUT;
+use case_file::verdict::RECORD;
+use case_file::verdict::Said;
+use case_file::verdict::Verdict;
 use isap::Job;
 use isap::Sliced;
 
@@ -59,9 +59,7 @@ fn read_cut() -> Cut {
     let text = reading::pair();
     let out = reading::pair();
     let budget = reading::four();
-    let number = reading::byte();
-    let rounds = reading::pair();
-    let answer = Said { number, rounds };
+    let answer = verdict::read_said();
     Cut {
         assoc,
         text,

@@ -3,20 +3,19 @@
 // differ, and names the first that do.
 mod beginning;
 mod calls;
-mod filling;
 mod jobs;
 mod messages;
-mod reading;
 mod records;
 mod refused;
 mod reports;
+mod room;
 mod shown;
-mod strings;
-mod verdict;
 
+use case_file::reading;
+use case_file::tally;
+use case_file::tally::Tally;
+use case_file::verdict::Verdict;
 use jobs::Went;
-use reports::Tally;
-use verdict::Verdict;
 
 // What a case showed, and how many slices it had.
 struct Outcome {
@@ -54,7 +53,7 @@ fn case_of(kind: u32) -> Outcome {
 
 // A proved loop has to end: it counts down from a number that no file uses up.
 fn run() -> Tally {
-    let mut tally = reports::nothing_yet();
+    let mut tally = tally::nothing_yet();
     let mut turns = u32::MAX;
     while 0 < turns {
         let kind = reading::byte();

@@ -1,18 +1,18 @@
 // Messages: sealed (call 1), opened again (2), and opened with one thing damaged (3).
 use crate::calls;
 use crate::calls::Lent;
-use crate::filling::Room;
-use crate::filling::filled;
-use crate::reading;
+use crate::room::Room;
+use crate::room::filled;
 use crate::shown::as_shown;
-use crate::strings::damage;
-use crate::strings::first;
-use crate::strings::same;
-use crate::verdict;
-use crate::verdict::OUTPUT;
-use crate::verdict::Said;
-use crate::verdict::TAG;
-use crate::verdict::Verdict;
+use case_file::reading;
+use case_file::strings::damage;
+use case_file::strings::first;
+use case_file::strings::same;
+use case_file::verdict;
+use case_file::verdict::OUTPUT;
+use case_file::verdict::Said;
+use case_file::verdict::TAG;
+use case_file::verdict::Verdict;
 
 // What is damaged, as the file numbers it.
 const KEY: u32 = 0;

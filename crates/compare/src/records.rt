@@ -1,6 +1,6 @@
 // A record from its 184 bytes in the case file, and two records compared.
 ghost use Prim.Native.Nat.{_+_, _≤_};
-use crate::strings::same;
+use case_file::strings::same;
 use isap::Job;
 use plan::Place;
 

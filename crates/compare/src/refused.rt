@@ -1,15 +1,15 @@
 // Whole calls that are refused: the number, no rounds, and neither output nor tag touched.
 use crate::calls;
 use crate::calls::Lent;
-use crate::filling::Room;
-use crate::filling::filled;
-use crate::reading;
-use crate::strings::same;
-use crate::verdict;
-use crate::verdict::OUTPUT;
-use crate::verdict::Said;
-use crate::verdict::TAG;
-use crate::verdict::Verdict;
+use crate::room::Room;
+use crate::room::filled;
+use case_file::reading;
+use case_file::strings::same;
+use case_file::verdict;
+use case_file::verdict::OUTPUT;
+use case_file::verdict::Said;
+use case_file::verdict::TAG;
+use case_file::verdict::Verdict;
 
 fn read_lent(instance: u32) -> Lent {
     let key = reading::byte();

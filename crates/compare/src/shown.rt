@@ -1,9 +1,9 @@
 // What the case file shows of a ciphertext: all of it up to 256 bytes, of a longer one its first and last eight bytes and its checksum.
-use crate::filling::checksum;
-use crate::reading;
-use crate::strings::first;
-use crate::strings::last_eight;
-use crate::strings::same;
+use case_file::filling::checksum;
+use case_file::reading;
+use case_file::strings::first;
+use case_file::strings::last_eight;
+use case_file::strings::same;
 
 fn eight_bytes() -> [u8; 8] {
     let mut s = [0u8; 8];

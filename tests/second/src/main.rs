@@ -4,6 +4,7 @@
 mod ascon;
 mod calls;
 mod cases;
+mod filling;
 mod instances;
 mod keccak;
 mod known;
@@ -15,6 +16,7 @@ mod record;
 mod sealed;
 mod steps;
 mod threads;
+mod written;
 
 use std::io::Write;
 

@@ -1,7 +1,7 @@
 //! Forged records: such as can stand, with any bytes where bytes may be anything, and such as cannot, have ended, or are lent other
 //! lengths than their own. A case: seed (8 bytes), the record (184), then its slices. Its kind goes by what the first slice answers.
 
-use super::filling::Room;
+use super::room::Room;
 use super::slices::{own_lengths, Cut, Sliced};
 use super::{one_of, up_to, Kind, Written};
 use crate::calls::{slice, CANNOT_STAND, HAS_ENDED, OTHER_LENGTH};
@@ -73,12 +73,13 @@ fn write(file: &mut Written, seed: u64, record: Record, cuts: &[Cut]) {
     let mut rest = Written::default();
     let mut sliced = Sliced { record: record.clone(), room: Room::of(seed) };
     let numbers: Vec<u32> = cuts.iter().map(|cut| sliced.write(&mut rest, cut)).collect();
-    file.begin(match numbers[0] {
+    let kind = match numbers[0] {
         CANNOT_STAND => Kind::NotStanding,
         HAS_ENDED => Kind::Ended,
         OTHER_LENGTH => Kind::OtherLengths,
         _ => Kind::Standing,
-    });
+    };
+    file.begin(kind as u8);
     file.eight(seed);
     file.bytes.extend(record.bytes());
     file.pair(cuts.len());

@@ -1,8 +1,8 @@
 //! Jobs of both directions, begun and cut in slices; slices after the end too. A case: a beginning (`refused`), then its slices.
 //! What each slice leaves is compared with the paper's algorithm stopped after as many rounds before it is written.
 
-use super::filling::Room;
 use super::refused::{write_beginning, Beginning};
+use super::room::Room;
 use super::slices::{own_lengths, Cut, Sliced};
 use super::{one_of, up_to, Kind, Written};
 use crate::calls::{begun, Lengths, NOT_ENDED};

@@ -4,8 +4,9 @@
 //! damage: what (1), where (2), which bits (1), rounds of the opening that it ends (2); tag (16), and the ciphertext: whole up to 256
 //! bytes, of a longer one the first 8, the last 8 and the checksum (8).
 
-use super::filling::{checksum, Room};
+use super::room::Room;
 use super::{one_of, up_to, Kind, Written};
+use crate::filling::checksum;
 use crate::instances::instance;
 use crate::numbers::Numbers;
 use crate::paper::{ended, Given};
@@ -119,7 +120,7 @@ fn write(file: &mut Written, m: &Message) {
     let (other, other_tag) = damaged(&received, tag, m.damage);
     let refused = ended(&other, OPENING, other_tag, &other.text);
     assert!(refused.record.ending == WRONG_TAG, "a damaged message is refused");
-    file.begin(Kind::Message);
+    file.begin(Kind::Message as u8);
     file.byte(m.instance);
     file.pair(m.assoc);
     file.pair(m.text);

@@ -1,16 +1,17 @@
 //! The case file for the program `compare`: what the library is to be called with, and what this program says it must answer.
 //!
-//! A case is its kind and what the kind's module says; a kind of 0 ends the file. Numbers have their most significant byte first.
+//! A case is its kind and what the kind's module says.
 
-mod filling;
 mod forged;
 mod jobs;
 mod messages;
 mod refused;
+mod room;
 mod slices;
 
 use crate::numbers::Numbers;
 use crate::threads::by_instance;
+use crate::written::Written;
 
 #[derive(Clone, Copy)]
 pub enum Kind {
@@ -24,9 +25,11 @@ pub enum Kind {
     NotStanding,
     Ended,
     OtherLengths,
+    /// no kind of case: the slices of all
+    Slice,
 }
 
-const NAMES: [&str; 10] = [
+const NAMES: [&str; 11] = [
     "messages sealed, opened, and opened damaged",
     "whole calls refused",
     "sealings in slices",
@@ -37,44 +40,8 @@ const NAMES: [&str; 10] = [
     "forged records that cannot stand",
     "forged records that have ended",
     "forged records with other lengths lent",
+    "slices",
 ];
-
-/// The bytes of some cases, and how many cases of each kind and slices they have.
-#[derive(Default)]
-pub struct Written {
-    bytes: Vec<u8>,
-    counts: [usize; NAMES.len()],
-    slices: usize,
-}
-
-impl Written {
-    fn begin(&mut self, kind: Kind) {
-        self.bytes.push(kind as u8);
-        self.counts[kind as usize - 1] += 1;
-    }
-
-    fn append(&mut self, mut other: Written) {
-        self.bytes.append(&mut other.bytes);
-        self.counts.iter_mut().zip(other.counts).for_each(|(count, more)| *count += more);
-        self.slices += other.slices;
-    }
-
-    fn byte(&mut self, number: u32) {
-        self.bytes.push(u8::try_from(number).expect("a number of one byte"));
-    }
-
-    fn pair(&mut self, number: usize) {
-        self.bytes.extend(u16::try_from(number).expect("a number of two bytes").to_be_bytes());
-    }
-
-    fn four(&mut self, number: u32) {
-        self.bytes.extend(number.to_be_bytes());
-    }
-
-    fn eight(&mut self, number: u64) {
-        self.bytes.extend(number.to_be_bytes());
-    }
-}
 
 /// A number from 0 to `most`.
 fn up_to(numbers: &mut Numbers, most: usize) -> usize {
@@ -98,14 +65,12 @@ pub fn file() -> Vec<u8> {
     let mut all = Written::default();
     by_instance(messages::of_instance).into_iter().for_each(|messages| all.append(messages));
     all.append(besides_messages());
-    all.bytes.push(0);
-    all.bytes
+    all.file()
 }
 
 /// What `compare` prints where nothing differs.
 pub fn summary() -> String {
     let mut all = besides_messages();
-    all.counts[Kind::Message as usize - 1] = (1..=4).map(|number| messages::planned(number).len()).sum();
-    let lines: String = NAMES.iter().zip(all.counts).map(|(name, count)| format!("{name}: {count}\n")).collect();
-    lines + &format!("slices: {}\ndifferences: 0\n", all.slices)
+    all.count(Kind::Message as u8, (1..=4).map(|number| messages::planned(number).len()).sum());
+    all.summary(&NAMES)
 }

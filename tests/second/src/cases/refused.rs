@@ -67,7 +67,7 @@ fn trials(seed: u64, far: &[usize]) -> Vec<Trial> {
 }
 
 fn begin(file: &mut Written, kind: Kind, direction: u32, instance: u32, seed: u64) {
-    file.begin(kind);
+    file.begin(kind as u8);
     file.byte(direction);
     file.four(instance);
     file.eight(seed);

@@ -2,8 +2,8 @@
 //! (4), number (1), rounds (2), what changes in the record: how many runs of bytes (1), each with its place and its length (1 each) and
 //! the bytes; and likewise in the output, a run's place and length having 2 bytes each. What is in no run must stay as it was.
 
-use super::filling::Room;
-use super::Written;
+use super::room::Room;
+use super::{Kind, Written};
 use crate::calls::slice;
 use crate::record::Record;
 
@@ -62,7 +62,7 @@ impl Sliced {
         file.pair(rounds as usize);
         write_changes(file, &record, &self.record.bytes(), |file, number| file.byte(number as u32));
         write_changes(file, &before, &self.room.out, |file, number| file.pair(number));
-        file.slices += 1;
+        file.count(Kind::Slice as u8, 1);
         number
     }
 }

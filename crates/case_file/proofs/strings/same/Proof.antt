@@ -1,10 +1,10 @@
--- `compare::strings::same` is safe and ends: the loop counts i up to the length, which both have.
+-- `case_file::strings::same` is safe and ends: the loop counts i up to the length, which both have.
 -- Assumes nothing.
 use Prim.Native.Nat.{_-_, _≤_}
 use lib.ListN.{length}
 use borrow.Author.Needs.{needs}
-use Rattle.compare.proofs.strings.same.Statement.{statement}
-use Rattle.compare.proofs.strings.same.Tie as tie
+use Rattle.case_file.proofs.strings.same.Statement.{statement}
+use Rattle.case_file.proofs.strings.same.Tie as tie
 
 abbrev Inv-loop : tie.InvT-loop
 Inv-loop a b equal₀ i₀ equal i = i ≤ length a

@@ -1,9 +1,9 @@
--- `compare::strings::within` meets its contract: what is not above a string's length counts bytes at its start.
+-- `case_file::strings::within` meets its contract: what is not above a string's length counts bytes at its start.
 -- Assumes nothing.
 use native.Mathlib.Omega.{arith}
 use Rattle.io.proofs.Counting.{counts}
-use Rattle.compare.proofs.strings.within.Statement.{statement}
-use Rattle.compare.proofs.strings.within.Tie as tie
+use Rattle.case_file.proofs.strings.within.Statement.{statement}
+use Rattle.case_file.proofs.strings.within.Tie as tie
 
 pub within-spec : {M : Type 1} → statement M
 within-spec =

@@ -1,10 +1,10 @@
--- `compare::filling::checksum` is safe and ends: the loop counts i up to the length.
+-- `case_file::filling::checksum` is safe and ends: the loop counts i up to the length.
 -- Assumes nothing.
 use Prim.Native.Nat.{_-_, _≤_}
 use lib.ListN.{length}
 use borrow.Author.Needs.{needs}
-use Rattle.compare.proofs.filling.checksum.Statement.{statement}
-use Rattle.compare.proofs.filling.checksum.Tie as tie
+use Rattle.case_file.proofs.filling.checksum.Statement.{statement}
+use Rattle.case_file.proofs.filling.checksum.Tie as tie
 
 abbrev Inv-loop : tie.InvT-loop
 Inv-loop s x₀ i₀ x i = i ≤ length s

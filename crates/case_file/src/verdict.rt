@@ -1,11 +1,13 @@
 // What a case shows: the first thing that differs, and in which of its calls.
+use crate::reading;
+
 pub struct Verdict {
     pub what: u32,
     // counted from 1; 0 is a beginning
     pub call: u32,
 }
 
-pub const NOTHING: u32 = 0;
+const NOTHING: u32 = 0;
 
 pub const NUMBER: u32 = 1;
 
@@ -24,9 +26,13 @@ pub fn no_difference() -> Verdict {
     }
 }
 
+pub fn differs(v: Verdict) -> bool {
+    v.what != NOTHING
+}
+
 // The verdict so far, or one on the call that comes next.
 pub fn then(v: Verdict, same: bool, what: u32, call: u32) -> Verdict {
-    if v.what != NOTHING {
+    if differs(v) {
         return v;
     }
     if same {
@@ -39,6 +45,13 @@ pub fn then(v: Verdict, same: bool, what: u32, call: u32) -> Verdict {
 pub struct Said {
     pub number: u32,
     pub rounds: u32,
+}
+
+// As a file has it: the number (one byte), the rounds (two).
+pub fn read_said() -> Said {
+    let number = reading::byte();
+    let rounds = reading::pair();
+    Said { number, rounds }
 }
 
 pub fn then_said(v: Verdict, said: Said, expected: Said, call: u32) -> Verdict {

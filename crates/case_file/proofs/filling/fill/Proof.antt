@@ -1,11 +1,11 @@
--- `compare::filling::fill` is safe and ends: the loop counts i up to the length, which stays.
+-- `case_file::filling::fill` is safe and ends: the loop counts i up to the length, which stays.
 -- Assumes nothing.
 use mathlib.Core.Path.{_≡_}
 use Prim.Native.Nat.{_-_, _≤_}
 use lib.ListN.{length}
 use borrow.Author.Needs.{needs}
-use Rattle.compare.proofs.filling.fill.Statement.{statement}
-use Rattle.compare.proofs.filling.fill.Tie as tie
+use Rattle.case_file.proofs.filling.fill.Statement.{statement}
+use Rattle.case_file.proofs.filling.fill.Tie as tie
 
 abbrev Inv-loop : tie.InvT-loop
 Inv-loop s₀ seed x₀ i₀ s x i = (i ≤ length s₀) × (length s ≡ length s₀)
