@@ -41,7 +41,8 @@ pub fn begun(instance: u32, direction: u32, key: [u8; 16], nonce: [u8; 16], tag:
     Record { instance, direction, assoc, text, key, nonce, tag, place, ..Record::zeros() }
 }
 
-fn number_of(record: &Record) -> u32 {
+/// The number that a slice answers by the record's ending.
+pub fn number_of(record: &Record) -> u32 {
     match record.ending {
         UNENDED => NOT_ENDED,
         WELL => ENDED_WELL,

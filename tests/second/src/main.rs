@@ -8,8 +8,11 @@ mod filling;
 mod instances;
 mod keccak;
 mod known;
+mod lines;
 mod numbers;
 mod paper;
+mod parcel;
+mod parcels;
 mod permutations;
 mod plan;
 mod record;
@@ -20,8 +23,8 @@ mod written;
 
 use std::io::Write;
 
-const USAGE: &str =
-    "usage: second permutations states|answers, plan rows|many requests|lines, cases file|summary, known FOLDER, or sealed FILE";
+const USAGE: &str = "usage: second permutations states|answers, plan rows|many requests|lines, cases file|summary, \
+    parcels cases file|summary, known FOLDER, sealed FILE, or parcels FILE";
 
 /// A report; where it tells a failure it goes to the error output and the program fails.
 fn passed((report, failed): (String, bool)) -> String {
@@ -45,7 +48,10 @@ fn main() {
         ["cases", "file"] => cases::file(),
         ["cases", "summary"] => cases::summary().into_bytes(),
         ["known", folder] => passed(known::report(folder)).into_bytes(),
-        ["sealed", file] => passed(sealed::report(file)).into_bytes(),
+        ["parcels", "cases", "file"] => parcels::file(),
+        ["parcels", "cases", "summary"] => parcels::summary().into_bytes(),
+        ["sealed", file] => passed(lines::report(file, "sealed", sealed::agrees)).into_bytes(),
+        ["parcels", file] => passed(lines::report(file, "parcels", parcels::agrees)).into_bytes(),
         _ => {
             eprintln!("{USAGE}");
             std::process::exit(2);

@@ -40,6 +40,12 @@ impl Written {
         self.bytes.extend(number.to_be_bytes());
     }
 
+    /// A string: its length (2 bytes) and its bytes.
+    pub fn string(&mut self, bytes: &[u8]) {
+        self.pair(bytes.len());
+        self.bytes.extend(bytes);
+    }
+
     /// The whole file: a kind of 0 ends it.
     pub fn file(mut self) -> Vec<u8> {
         self.bytes.push(0);
