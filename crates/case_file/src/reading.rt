@@ -48,3 +48,10 @@ pub fn string_at(s: &mut [u8], at: usize, count: usize) {
     let end = at + count;
     string(&mut s[at..end]);
 }
+
+// A string with its length before it (two bytes), to the start of a buffer: its length.
+pub fn counted_string(s: &mut [u8]) -> u32 {
+    let count = pair();
+    string_at(s, 0, count as usize);
+    count
+}

@@ -71,7 +71,11 @@ fn say_what(what: u32) {
         verdict::ROUNDS => say(b"rounds"),
         verdict::OUTPUT => say(b"output"),
         verdict::TAG => say(b"tag"),
-        _ => say(b"record"),
+        verdict::RECORD => say(b"record"),
+        verdict::COUNTER => say(b"counter"),
+        verdict::READING => say(b"reading"),
+        verdict::FIELDS => say(b"fields"),
+        _ => say(b"ciphertext"),
     }
 }
 

@@ -19,6 +19,14 @@ pub const TAG: u32 = 4;
 
 pub const RECORD: u32 = 5;
 
+pub const COUNTER: u32 = 6;
+
+pub const READING: u32 = 7;
+
+pub const FIELDS: u32 = 8;
+
+pub const CIPHERTEXT: u32 = 9;
+
 pub fn no_difference() -> Verdict {
     Verdict {
         what: NOTHING,
