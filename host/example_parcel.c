@@ -6,7 +6,7 @@
 int main(void)
 {
     const uint8_t key[16] = {1}, text[4] = {'t', 'i', 'c', 'k'};
-    uint8_t parcel[4 + PARCEL_ADDED_BYTES], opened[4];
+    uint8_t parcel[4 + PARCEL_ADDED_BYTES], opened[PARCEL_TEXT_MAX]; /* room for whatever a sender may have sealed */
     uint64_t last = 41; /* as it was stored */
     uint64_t answer = parcel_build(ISAP_A_128A, key, 16, 12, last, text, 4, parcel, sizeof parcel);
     last = parcel_counter_to_keep(answer, last); /* to be stored here, before the parcel is sent */

@@ -18,12 +18,13 @@
  * The counter, at the sender. For each key, and under it for each station number, the host keeps one number in memory that outlives a loss
  * of power: the last counter used. It must never go back, and no counter may be used twice.
  *
- *   - Under a new key the last counter is 0: the first parcel has counter 1.
+ *   - Under a new key the last counter is 0: the first parcel has counter 1. No parcel with counter 0 is built, but one that comes over the
+ *     air is read and opened like any other.
  *   - A building that answers 0 has used the counter last + 1. Store this as the last counter, and be sure that it is stored, before the
  *     first byte of the parcel leaves the mast. A loss of power before that costs a parcel that nobody has heard; one after it skips a
  *     counter, which does no harm. If a parcel leaves first, a loss of power in between makes its counter repeat.
  *   - A loss of power while storing must leave the old number or the new one, not a mixture.
- *   - A refusal has used no counter: what is stored stays.
+ *   - A refusal has used no counter: what is stored stays. Nor does sending the same bytes again use one.
  *   - 13 says that the last counter is 2^64 - 1 and has no next. No mast sends so many parcels, but erased memory often reads so. Do not
  *     begin anew from 0 under the same key: take a new key.
  *   - Memory put back from a copy, a swapped board and a second sender with the same key and station number make counters repeat as well.
@@ -94,8 +95,10 @@ static inline uint64_t parcel_counter_to_keep(uint64_t answer, uint64_t last)
 }
 
 /*
- * Opens the parcel at the start of a buffer: the text goes to out if the tag is right, and nothing else does. out has as many bytes as
- * parcel_text says. Bytes behind the parcel are not looked at. Answers 0, 1, 2, 5, 6, 8, 12, 14.
+ * Opens the parcel at the start of a buffer: the text goes to out if the tag is right, and nothing else does. out_len must be what
+ * parcel_text says. Have room for PARCEL_TEXT_MAX bytes, or hold parcel_text against the room that there is before you lend it: the length
+ * comes from the air, and the call writes as much as it was lent. Bytes behind the parcel are not looked at. Answers 0, 1, 2, 5, 6, 8, 12,
+ * 14.
  */
 uint64_t parcel_open(const uint8_t *key, size_t key_len, const uint8_t *parcel, size_t parcel_len, uint8_t *out, size_t out_len);
 

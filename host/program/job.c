@@ -18,7 +18,7 @@ int status_of(uint64_t answer)
         [ISAP_LONG_TEXT] = "the text is above 4096 bytes",
         [ISAP_BAD_OUT] = "the output is not as long as the text",
         [ISAP_BAD_TAG] = "the tag is not 16 bytes: the sealed input is cut short",
-        [ISAP_WRONG_TAG] = "the tag is not the right one: this is not what was sealed with this key, nonce and associated data",
+        [ISAP_WRONG_TAG] = "the tag is not the right one: what was given is not what was sealed",
         [PARCEL_WRONG_MARK] = "the mark is not A7 5C: no parcel begins here",
         [PARCEL_COUNTER_SPENT] = "the last counter is already the largest: take a new key",
         [PARCEL_CUT_SHORT] = "the parcel is cut short",

@@ -45,7 +45,7 @@ static const char help[] =
     "Exit status: 0 well; refusals: 1 instance, 2 key, 3 nonce, 4 associated data too long, 5 text too\n"
     "long, 6 output length, 7 tag length (sealed input cut short), 8 wrong tag, 12 wrong mark, 13 last\n"
     "counter already the largest, 14 parcel cut short; 64 the command line will not do; 74 a file cannot\n"
-    "be read or written. Unless it is 0, no output is written.\n";
+    "be read or written. Unless it is 0, no file is written; what went to a pipe may be cut.\n";
 
 struct named_job {
     const char *name;

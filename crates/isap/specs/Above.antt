@@ -1,5 +1,5 @@
--- What a library above goes by: which instances and lengths no whole call refuses, and that an opening which answered 0 has given the text
--- whose sealing is exactly what was opened.
+-- What a library above goes by: what no whole call refuses; what a sealing then gives; that an opening which answered 0 has given the text
+-- whose sealing is exactly what was opened, and with any other answer has left its output as it was.
 -- Assumes nothing.
 use mathlib.Core.Path.{_≡_, refl, sym, ap, _∙_}
 use mathlib.Core.Bool.{Bool, true, false}
@@ -21,7 +21,7 @@ use Rattle.isap.specs.declared.Answer.{Answer}
 use Rattle.isap.specs.Beginnings.{limitsRefusal}
 use Rattle.isap.specs.Whole.{refusalFor, answered, sealOf, sealOut, sealTag, openedAnswer, openedOut, openOf, openOut}
 use Rattle.isap.specs.Statements.{Seals}
-use Rattle.isap.specs.Fits.{Fits, fits}
+use Rattle.isap.specs.Fits.{Fits, fits, unrefused}
 
 -- an instance's number is a byte
 pub known-byte : (i : ℕ) → known i ≡ true → i < 256
@@ -41,11 +41,21 @@ unfolding openedAnswer openedOut
 opened-well s a m (plaintext t) out e = refl
 opened-well s a m refused out e = absurd (omega (arith, e))
 
+kept : (b : Bool) (s : Scheme) (a m : ℕ) (u : Opened) (refusal : ℕ) (out : List ℕ)
+    → (pick b (openedAnswer s a m u) (record { number = refusal; rounds = 0 }) .number ≡ 0 → ⊥) → pick b (openedOut u out) out ≡ out
+unfolding openedAnswer openedOut
+kept false s a m u refusal out f = refl
+kept true s a m refused refusal out f = refl
+kept true s a m (plaintext t) refusal out f = absurd (f refl)
+
 module _ (of : ℕ → Scheme) where
-  pub limits-all : (instance key nonce a m : ℕ) → known instance ≡ true → key ≡ of instance .keyBytes → nonce ≡ 16 → a ≤ mostAssoc → m ≤ mostText
-      → limitsRefusal of instance key nonce a m ≡ 0
+  -- everything within its limits and of its length
+  pub none-refused : (instance : ℕ) (key nonce assoc text out tag : List ℕ) → known instance ≡ true → length key ≡ of instance .keyBytes → length nonce ≡ 16
+      → length assoc ≤ mostAssoc → length text ≤ mostText → length out ≡ length text → length tag ≡ 16 → refusalFor of instance key nonce assoc text out tag ≡ 0
   unfolding limitsRefusal
-  limits-all instance key nonce a m i k n ha hm = rw (i, eq-eqb key (of instance .keyBytes) k, eq-eqb nonce 16 n, le-leb a mostAssoc ha, le-leb m mostText hm)
+  none-refused instance key nonce assoc text out tag i k n ha hm o t =
+      unrefused of instance key nonce assoc text out tag
+      (rw (i, eq-eqb (length key) (of instance .keyBytes) k, eq-eqb (length nonce) 16 n, le-leb (length assoc) mostAssoc ha, le-leb (length text) mostText hm)) o t
 
   -- a sealing that is not refused gives the algorithm's bytes
   pub sealed-well : (instance : ℕ) (key nonce assoc text out tag : List ℕ) → refusalFor of instance key nonce assoc text out tag ≡ 0
@@ -56,6 +66,21 @@ module _ (of : ℕ → Scheme) where
   sealed-well instance key nonce assoc text out tag none r out′ tag′ h =
       let yes = eq-eqb (refusalFor of instance key nonce assoc text out tag) 0 none in
       (rw yes at (h .0), rw yes at (h .1), rw yes at (h .2))
+
+  -- an opening that did not answer 0 has written nothing
+  pub opening-keeps : (instance : ℕ) (key nonce assoc text tag out : List ℕ) → (openOf of instance key nonce assoc text tag out .number ≡ 0 → ⊥)
+      → openOut of instance key nonce assoc text tag out ≡ out
+  unfolding openOf openOut
+  opening-keeps instance key nonce assoc text tag out f =
+      kept (eqb (refusalFor of instance key nonce assoc text out tag) 0) (of instance) (length assoc) (length text) (of instance .unseal key nonce assoc text tag)
+      (refusalFor of instance key nonce assoc text out tag) out f
+
+  -- a sealing that is not refused gives a ciphertext as long as the text, and a tag of 16 bytes
+  pub sealed-long : (laws : (i : ℕ) → LawfulScheme (of i)) (instance : ℕ) (key nonce assoc text out tag : List ℕ) → refusalFor of instance key nonce assoc text out tag ≡ 0
+      → (length (of instance .seal key nonce assoc text .cipher) ≡ length text) × (length (of instance .seal key nonce assoc text .tag) ≡ 16)
+  sealed-long laws instance key nonce assoc text out tag none =
+      let h = fits of instance key nonce assoc text out tag none in
+      (laws instance .cipherLong key nonce assoc text (h .keyLong) (h .nonceLong), laws instance .tagLong key nonce assoc text (h .keyLong) (h .nonceLong))
 
   module _ (laws : (i : ℕ) → LawfulScheme (of i)) (instance : ℕ) (key nonce assoc text tag out : List ℕ)
       (well : openOf of instance key nonce assoc text tag out .number ≡ 0) where

@@ -20,12 +20,12 @@ use Rattle.parcel.specs.declared.Fields.{Fields}
 use Rattle.parcel.specs.declared.Reading.{Reading}
 use Rattle.parcel.specs.declared.Reading.the-variants.{Whole}
 use Rattle.parcel.specs.Layout.{headerOf, nonceOf, parcelOf}
-use Rattle.parcel.specs.Layouts.{nonce-bytes}
+use Rattle.parcel.specs.Lengths.{nonce-bytes}
 use Rattle.parcel.specs.Headers.{fields-small, fields-header}
 use Rattle.parcel.specs.Building.{nextFields, refusal, sealedUnder, builtOf, builtOut, CanBuild}
 use Rattle.parcel.specs.Fits.{builds-when}
 use Rattle.parcel.specs.Reading.{part, readOf}
-use Rattle.parcel.specs.Readings.{IsWhole, is-whole, body-there, text-carried}
+use Rattle.parcel.specs.Wholes.{IsWhole, is-whole, body-there, text-carried}
 use Rattle.parcel.specs.Opening.{openBy, outBy}
 use Rattle.parcel.specs.Statements.{Builds}
 

@@ -21,12 +21,12 @@ use Rattle.parcel.specs.declared.Fields.{Fields}
 use Rattle.parcel.specs.declared.Reading.{Reading}
 use Rattle.parcel.specs.declared.Reading.the-variants.{Whole}
 use Rattle.parcel.specs.Layout.{headerOf, nonceOf, parcelOf, mostCarried}
-use Rattle.parcel.specs.Layouts.{header-long, header-bytes, nonce-bytes}
+use Rattle.parcel.specs.Lengths.{header-long, header-bytes, nonce-bytes}
 use Rattle.parcel.specs.Headers.{InBytes, header-marked, header-fields}
 use Rattle.parcel.specs.Building.{nextFields, refusal, sealedUnder, builtOut, CanBuild}
-use Rattle.parcel.specs.Fits.{can-build, cipher-long, tag-long, none-refused, sealed-parts}
+use Rattle.parcel.specs.Fits.{can-build, cipher-long, tag-long, not-refused, sealed-parts}
 use Rattle.parcel.specs.Reading.{part, marked, fieldsIn, readOf}
-use Rattle.parcel.specs.Readings.{reads-whole}
+use Rattle.parcel.specs.Wholes.{reads-whole}
 use Rattle.parcel.specs.Opening.{openBy, outBy}
 use Rattle.parcel.specs.Statements.{OpensParcel}
 
@@ -106,16 +106,23 @@ module _ (of : ℕ → Scheme) (laws : (i : ℕ) → LawfulScheme (of i)) (insta
       abbrev nonce : List ℕ
       nonce = nonceOf station (last + 1)
 
+      -- isap's round trip, of the parcel's parts
       opens : Opens of instance key nonce (headerOf f) (s .cipher) (s .tag) buffer (record { number = 0; rounds = allCount (of instance) false 15 (length text) }) text
       opens =
           let o : List ℕ = replicate (length text) 0 in
           let t : List ℕ = replicate 16 0 in
           let ol : length o ≡ length text = length-replicate (length text) 0 in
-          let parts = sealed-parts of laws f key text (length out) can o t ol refl (sealOf of instance key nonce (headerOf f) text o t) (sealOut of instance key nonce (headerOf f) text o t) (sealTag of instance key nonce (headerOf f) text o t) (refl, refl, refl) in
-          let back = message-back of laws room instance key nonce (headerOf f) text o t (none-refused of laws f key text (length out) can o t ol refl) keys (nonce-bytes station (last + 1)) (header-bytes f) texts buffer long in
-          subst (λ (k : ℕ). Opens of instance key nonce (headerOf f) (s .cipher) (s .tag) buffer (record { number = 0; rounds = allCount (of instance) false k (length text) }) text) (header-long f)
-          (subst (λ (c : List ℕ). Opens of instance key nonce (headerOf f) c (s .tag) buffer (record { number = 0; rounds = allCount (of instance) false (length (headerOf f)) (length text) }) text) (parts .1)
-          (subst (λ (g : List ℕ). Opens of instance key nonce (headerOf f) (sealOut of instance key nonce (headerOf f) text o t) g buffer (record { number = 0; rounds = allCount (of instance) false (length (headerOf f)) (length text) }) text) (parts .2) back))
+          let h = headerOf f in
+          let parts =
+          sealed-parts of laws f key text (length out) can o t ol refl
+          (sealOf of instance key nonce h text o t) (sealOut of instance key nonce h text o t) (sealTag of instance key nonce h text o t) (refl, refl, refl) in
+          let back =
+          message-back of laws room instance key nonce h text o t (not-refused of laws f key text (length out) can o t ol refl)
+          keys (nonce-bytes station (last + 1)) (header-bytes f) texts buffer long in (
+            sym (ap (λ (a : ℕ). record { number = 0; rounds = allCount (of instance) false a (length text) }) (header-long f))
+                ∙ back .0 ∙ (λ i. openOf of instance key nonce h (parts .1 i) (parts .2 i) buffer),
+            back .1 ∙ (λ i. openOut of instance key nonce h (parts .1 i) (parts .2 i) buffer),
+          )
 
       pub built-opens : OpensParcel of key (builtOut of instance key station last text out ++ rest) buffer (record { number = 0; rounds = allCount (of instance) false 15 (length text) }) text
       built-opens =

@@ -20,10 +20,10 @@ use Rattle.parcel.specs.declared.Fields.{Fields}
 use Rattle.parcel.specs.declared.Reading.{Reading}
 use Rattle.parcel.specs.declared.Reading.the-variants.{Whole, Refused}
 use Rattle.parcel.specs.Layout.{nonceOf, mostCarried, mostCounter}
-use Rattle.parcel.specs.Reading.{part, marked, fieldsIn, unless, readOf, numberOf, fieldsOf}
+use Rattle.parcel.specs.Reading.{part, marked, fieldsIn, unless, readOf, numberOf}
 use Rattle.parcel.specs.Building.{buildRefusal, refusal, builtOf}
 use Rattle.parcel.specs.Opening.{openBy, outBy}
-use Rattle.parcel.specs.Statements.{Reads, IsPart, GivesCipher, GivesTag, Builds, OpensParcel, BuildsInC, OpensParcelInC}
+use Rattle.parcel.specs.Statements.{Reads, TellsNumber, TellsFields, NumberInC, InstanceInC, StationInC, CounterInC, TextInC, IsPart, GivesCipher, GivesTag, Builds, OpensParcel, BuildsInC, OpensParcelInC}
 
 pub one-reading : (p : List ℕ) (r r′ : Reading) → Reads p r → Reads p r′ → r ≡ r′
 one-reading p r r′ h k = h ∙ sym k
@@ -38,12 +38,29 @@ one-cipher p r r′ h k = one-part p r r′ _ _ h k
 pub one-tag : (p r r′ : RefT (List ℕ)) → GivesTag p r → GivesTag p r′ → (now r ≡ now r′) × (r .ptr ≡ r′ .ptr)
 one-tag p r r′ h k = one-part p r r′ _ _ h k
 
--- of what `read` gave, and of a field that a host in C is told
-pub one-number : (x r r′ : ℕ) → r ≡ x → r′ ≡ x → r ≡ r′
-one-number x r r′ h k = h ∙ sym k
+-- of what `read` gave
+pub one-number : (w : Reading) (r r′ : ℕ) → TellsNumber w r → TellsNumber w r′ → r ≡ r′
+one-number w r r′ h k = h ∙ sym k
 
-pub one-fields : (w : Reading) (r r′ : Fields) → r ≡ fieldsOf w → r′ ≡ fieldsOf w → r ≡ r′
+pub one-fields : (w : Reading) (r r′ : Fields) → TellsFields w r → TellsFields w r′ → r ≡ r′
 one-fields w r r′ h k = h ∙ sym k
+
+-- of what a host in C is told of a buffer
+module _ (p : List ℕ) (r r′ : ℕ) where
+  pub one-number-in-c : NumberInC p r → NumberInC p r′ → r ≡ r′
+  one-number-in-c h k = h ∙ sym k
+
+  pub one-instance-in-c : InstanceInC p r → InstanceInC p r′ → r ≡ r′
+  one-instance-in-c h k = h ∙ sym k
+
+  pub one-station-in-c : StationInC p r → StationInC p r′ → r ≡ r′
+  one-station-in-c h k = h ∙ sym k
+
+  pub one-counter-in-c : CounterInC p r → CounterInC p r′ → r ≡ r′
+  one-counter-in-c h k = h ∙ sym k
+
+  pub one-text-in-c : TextInC p r → TextInC p r′ → r ≡ r′
+  one-text-in-c h k = h ∙ sym k
 
 module _ (of : ℕ → Scheme) where
   module _ (instance : ℕ) (key : List ℕ) (station last : ℕ) (text out : List ℕ) where

@@ -6,7 +6,7 @@ use mathlib.Core.List.{List}
 use Prim.Native.Nat.{ℕ, _+_}
 use native.Mathlib.Omega.{arith}
 use lib.Dec.{eqb, leb}
-use lib.ListN.{length}
+use lib.ListN.{length, replicate}
 use borrow.Author.Tests.{eqb-true, eqb-false, leb-true, eq-eqb, ne-eqb, le-leb}
 use Rattle.bits.specs.Pick.{pick}
 use Rattle.scheme.specs.Scheme.{Scheme, allCount}
@@ -14,12 +14,11 @@ use Rattle.scheme.specs.Lawful.{LawfulScheme}
 use Rattle.instances.specs.Schemes.{known}
 use Rattle.isap.specs.declared.Answer.{Answer}
 use Rattle.isap.specs.Whole.{refusalFor}
-use Rattle.isap.specs.Fits.{unrefused}
-use Rattle.isap.specs.Above.{limits-all, sealed-well}
+use Rattle.isap.specs.Above.{none-refused, sealed-well, sealed-long}
 use Rattle.isap.specs.Statements.{Seals}
 use Rattle.parcel.specs.declared.Fields.{Fields}
 use Rattle.parcel.specs.Layout.{headerOf, nonceOf, mostCarried, mostCounter}
-use Rattle.parcel.specs.Layouts.{header-long, nonce-long}
+use Rattle.parcel.specs.Lengths.{header-long, nonce-long}
 use Rattle.parcel.specs.Building.{buildRefusal, sealedUnder, CanBuild}
 
 -- ---- what the refusals leave, and the other way round
@@ -57,25 +56,25 @@ module _ (of : ℕ → Scheme) (laws : (i : ℕ) → LawfulScheme (of i)) (f : F
   abbrev nonce : List ℕ
   nonce = nonceOf (f .station) (f .counter)
 
-  pub cipher-long : length (sealedUnder of f key text .cipher) ≡ length text
+  pub not-refused : (out tag : List ℕ) → length out ≡ length text → length tag ≡ 16 → refusalFor of (f .instance) key nonce (headerOf f) text out tag ≡ 0
+  not-refused out tag ol tl =
+      none-refused of (f .instance) key nonce (headerOf f) text out tag (can .isKnown) (can .keyLong) (nonce-long (f .station) (f .counter))
+      (omega (arith, header-long f)) (omega (arith, can .textLimit)) ol tl
+
+  parts-long : (length (sealedUnder of f key text .cipher) ≡ length text) × (length (sealedUnder of f key text .tag) ≡ 16)
   unfolding sealedUnder
-  cipher-long = laws (f .instance) .cipherLong key nonce (headerOf f) text (can .keyLong) (nonce-long (f .station) (f .counter))
+  parts-long = sealed-long of laws (f .instance) key nonce (headerOf f) text text (replicate 16 0) (not-refused text (replicate 16 0) refl refl)
+
+  pub cipher-long : length (sealedUnder of f key text .cipher) ≡ length text
+  cipher-long = parts-long .0
 
   pub tag-long : length (sealedUnder of f key text .tag) ≡ 16
-  unfolding sealedUnder
-  tag-long = laws (f .instance) .tagLong key nonce (headerOf f) text (can .keyLong) (nonce-long (f .station) (f .counter))
-
-  pub none-refused : (out tag : List ℕ) → length out ≡ length text → length tag ≡ 16 → refusalFor of (f .instance) key nonce (headerOf f) text out tag ≡ 0
-  none-refused out tag ol tl =
-      let limits =
-      limits-all of (f .instance) (length key) (length nonce) (length (headerOf f)) (length text) (can .isKnown) (can .keyLong) (nonce-long (f .station) (f .counter))
-      (omega (arith, header-long f)) (omega (arith, can .textLimit)) in
-      unrefused of (f .instance) key nonce (headerOf f) text out tag limits ol tl
+  tag-long = parts-long .1
 
   pub sealed-parts : (out tag : List ℕ) → length out ≡ length text → length tag ≡ 16 → (r : Answer) (out′ tag′ : List ℕ)
       → Seals of (f .instance) key nonce (headerOf f) text out tag r out′ tag′
       → (r ≡ record { number = 0; rounds = allCount (of (f .instance)) true 15 (length text) }) × (out′ ≡ sealedUnder of f key text .cipher) × (tag′ ≡ sealedUnder of f key text .tag)
   unfolding sealedUnder
   sealed-parts out tag ol tl r out′ tag′ h =
-      let w = sealed-well of (f .instance) key nonce (headerOf f) text out tag (none-refused out tag ol tl) r out′ tag′ h in
+      let w = sealed-well of (f .instance) key nonce (headerOf f) text out tag (not-refused out tag ol tl) r out′ tag′ h in
       (subst (λ (k : ℕ). r ≡ record { number = 0; rounds = allCount (of (f .instance)) true k (length text) }) (header-long f) (w .0), w .1, w .2)

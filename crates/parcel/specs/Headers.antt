@@ -64,9 +64,10 @@ module _ (p : List ℕ) (bytes : Bytes p) where
   marks : 2 ≤ length p → marked p ≡ true → take 2 p ≡ mark
   unfolding marked
   marks h e =
+      let first = eqb (getD p 0 0) (getD mark 0 0) in
+      let second = eqb (getD p 1 0) (getD mark 1 0) in
       part-elems p 0 1 h
-      ∙ ap₂ (λ (a b : ℕ). a ∷ b ∷ []) (eqb-true (getD p 0 0) 167 (and-left (eqb (getD p 0 0) 167) (eqb (getD p 1 0) 92) e))
-      (eqb-true (getD p 1 0) 92 (and-right (eqb (getD p 0 0) 167) (eqb (getD p 1 0) 92) e))
+      ∙ ap₂ (λ (a b : ℕ). a ∷ b ∷ []) (eqb-true (getD p 0 0) (getD mark 0 0) (and-left first second e)) (eqb-true (getD p 1 0) (getD mark 1 0) (and-right first second e))
 
   pub fields-header : 15 ≤ length p → marked p ≡ true → headerOf (fieldsIn p) ≡ take 15 p
   unfolding headerOf fieldsIn

@@ -7,9 +7,8 @@ use Rattle.bits.specs.BigEndian.{beBytes}
 use Rattle.scheme.specs.Machine.{Sealed}
 use Rattle.parcel.specs.declared.Fields.{Fields}
 
--- A7 5C
 abbrev pub mark : List ℕ
-mark = 167 ∷ 92 ∷ []
+mark = 0xa7 ∷ 0x5c ∷ []
 
 -- mark, instance (1 byte), station (2), counter (8), text length (2); these 15 bytes are the associated data
 unfoldable pub headerOf : Fields → List ℕ

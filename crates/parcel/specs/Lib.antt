@@ -1,10 +1,10 @@
 pub mod Layout
-pub mod Layouts
+pub mod Lengths
 pub mod Building
 pub mod Reading
 pub mod Opening
 pub mod Statements
-pub mod Readings
+pub mod Wholes
 pub mod Fits
 pub mod Own
 pub mod Headers
@@ -12,3 +12,4 @@ pub mod Back
 pub mod Again
 pub mod Refused
 pub mod Determined
+pub mod Promises

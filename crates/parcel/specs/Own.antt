@@ -3,12 +3,12 @@
 use mathlib.Core.Path.{_≡_, refl, sym, ap, ap₂, _∙_, subst}
 use mathlib.Core.Logic.{_⊎_, inl, inr}
 use mathlib.Core.Bool.{Bool, true, false, _&&_}
-use mathlib.Core.List.{List, _++_}
+use mathlib.Core.List.{List}
 use Prim.Native.Nat.{ℕ, _+_, _≤_, _<_}
 use native.Mathlib.Omega.{arith}
 use lib.Dec.{eqb, leb}
-use lib.ListN.{length, getD, take, length-take, length-append}
-use lib.Seq.{getD-take, take-append-le}
+use lib.ListN.{length, getD, take, length-take}
+use lib.Seq.{getD-take}
 use borrow.Author.Tests.{leb-true, le-leb}
 use Rattle.bits.specs.BigEndian.{fromBe}
 use Rattle.bits.specs.Part.{part-take}
@@ -19,9 +19,9 @@ use Rattle.isap.specs.Whole.{openOf, openOut}
 use Rattle.parcel.specs.declared.Fields.{Fields}
 use Rattle.parcel.specs.declared.Reading.{Reading}
 use Rattle.parcel.specs.declared.Reading.the-variants.{Whole, Refused}
-use Rattle.parcel.specs.Layout.{nonceOf, mostCarried}
+use Rattle.parcel.specs.Layout.{mark, nonceOf, mostCarried}
 use Rattle.parcel.specs.Reading.{part, marked, fieldsIn, unless, readOf}
-use Rattle.parcel.specs.Readings.{is-whole, reads-whole, body-there}
+use Rattle.parcel.specs.Wholes.{is-whole, reads-whole, body-there}
 use Rattle.parcel.specs.Opening.{openBy, outBy}
 use Rattle.parcel.specs.Statements.{OpensParcel}
 
@@ -35,7 +35,7 @@ module _ (p q : List ℕ) (k : ℕ) (same : take k q ≡ take k p) where
 
   same-mark : 2 ≤ k → marked q ≡ marked p
   unfolding marked
-  same-mark h = ap₂ (λ (a b : ℕ). eqb a 167 && eqb b 92) (same-byte 0 (omega arith)) (same-byte 1 (omega arith))
+  same-mark h = ap₂ (λ (a b : ℕ). eqb a (getD mark 0 0) && eqb b (getD mark 1 0)) (same-byte 0 (omega arith)) (same-byte 1 (omega arith))
 
   same-fields : 15 ≤ k → fieldsIn q ≡ fieldsIn p
   unfolding fieldsIn
@@ -89,10 +89,15 @@ module _ (p q : List ℕ) (f : Fields) (read : readOf p ≡ Whole f) (same : tak
           ap (λ (w : Reading). outBy of w key p out) read
           ∙ sym (ap (λ (w : Reading). outBy of w key q out) own-bytes ∙ (λ i. openOut of (f .instance) key (nonceOf (f .station) (f .counter)) (own-header i) (own-cipher i) (own-tag i) out))
 
--- ---- a buffer that is refused otherwise than for being cut short: so is every buffer that begins with it
+-- ---- a refusal other than 14 depends on the bytes that were looked at: the mark, or the header
+
+-- the first test that fails: the mark's, the instance's, the limit's
+abbrev Why : (a b c d e : Bool) (n : ℕ) → Type 0
+Why a b c d e n =
+    ((a ≡ true) × (b ≡ false) × (12 ≡ n)) ⊎ (((a ≡ true) × (b ≡ true) × (c ≡ true)) × (((d ≡ false) × (1 ≡ n)) ⊎ ((d ≡ true) × (e ≡ false) × (5 ≡ n))))
 
 why : (a b c d e g : Bool) (f : Fields) (n : ℕ) → (n ≡ 14 → ⊥) → unless a 14 (unless b 12 (unless c 14 (unless d 1 (unless e 5 (unless g 14 (Whole f)))))) ≡ Refused n
-    → ((a ≡ true) × (b ≡ false) × (12 ≡ n)) ⊎ (((a ≡ true) × (b ≡ true) × (c ≡ true)) × (((d ≡ false) × (1 ≡ n)) ⊎ ((d ≡ true) × (e ≡ false) × (5 ≡ n))))
+    → Why a b c d e n
 why true false c d e g f n h q = inl (refl, refl, cc)
 why true true true false e g f n h q = inr ((refl, refl, refl), inl (refl, cc))
 why true true true true false g f n h q = inr ((refl, refl, refl), inr (refl, refl, cc))
@@ -101,27 +106,38 @@ why true true false d e g f n h q = absurd (h (cc))
 why true true true true true false f n h q = absurd (h (cc))
 why true true true true true true f n h q = absurd (let z : _≡_ {A = ℕ} 0 1 = cc in omega arith)
 
-pub stays-refused : (p rest : List ℕ) (n : ℕ) → (n ≡ 14 → ⊥) → readOf p ≡ Refused n → readOf (p ++ rest) ≡ Refused n
-unfolding readOf
-stays-refused p rest n h q =
-    by-cause (why (leb 2 (length p)) (marked p) (leb 15 (length p)) (known (fieldsIn p .instance)) (leb (fieldsIn p .text) mostCarried) (leb (31 + fieldsIn p .text) (length p)) (fieldsIn p) n h q)
-  where
-    longer : (k : ℕ) → leb k (length p) ≡ true → leb k (length (p ++ rest)) ≡ true
-    longer k e = le-leb k (length (p ++ rest)) (omega (arith, leb-true k (length p) e, length-append p rest))
+module _ (p q : List ℕ) where
+  longer : (k : ℕ) → leb k (length p) ≡ true → take k q ≡ take k p → leb k (length q) ≡ true
+  longer k e same = le-leb k (length q) (long-too p q k same (leb-true k (length p) e))
 
-    same : (k : ℕ) → leb k (length p) ≡ true → take k (p ++ rest) ≡ take k p
-    same k e = take-append-le k p rest (leb-true k (length p) e)
+  pub wrong-mark-alone : readOf p ≡ Refused 12 → take 2 q ≡ take 2 p → readOf q ≡ Refused 12
+  unfolding readOf
+  wrong-mark-alone r same =
+      by-cause
+      (why (leb 2 (length p)) (marked p) (leb 15 (length p)) (known (fieldsIn p .instance)) (leb (fieldsIn p .text) mostCarried) (leb (31 + fieldsIn p .text) (length p)) (fieldsIn p) 12
+      (λ e. omega (arith, e)) r)
+    where
+      by-cause : Why (leb 2 (length p)) (marked p) (leb 15 (length p)) (known (fieldsIn p .instance)) (leb (fieldsIn p .text) mostCarried) 12 → readOf q ≡ Refused 12
+      by-cause (inl t) = rw (longer 2 (t .0) same, same-mark p q 2 same (omega arith) ∙ t .1)
+      by-cause (inr (t, inl u)) = absurd (omega (arith, u .1))
+      by-cause (inr (t, inr u)) = absurd (omega (arith, u .2))
 
-    mark : leb 2 (length p) ≡ true → marked (p ++ rest) ≡ marked p
-    mark e = same-mark p (p ++ rest) 2 (same 2 e) (omega arith)
+  pub header-alone : (n : ℕ) → (n ≡ 14 → ⊥) → readOf p ≡ Refused n → take 15 q ≡ take 15 p → readOf q ≡ Refused n
+  unfolding readOf
+  header-alone n h r same =
+      by-cause
+      (why (leb 2 (length p)) (marked p) (leb 15 (length p)) (known (fieldsIn p .instance)) (leb (fieldsIn p .text) mostCarried) (leb (31 + fieldsIn p .text) (length p)) (fieldsIn p) n h r)
+    where
+      two : take 2 q ≡ take 2 p
+      two = same-part p q 15 same 0 2 (omega arith)
 
-    fields : leb 15 (length p) ≡ true → fieldsIn (p ++ rest) ≡ fieldsIn p
-    fields e = same-fields p (p ++ rest) 15 (same 15 e) (omega arith)
+      mark-same : marked q ≡ marked p
+      mark-same = same-mark p q 15 same (omega arith)
 
-    by-cause : ((leb 2 (length p) ≡ true) × (marked p ≡ false) × (12 ≡ n))
-        ⊎ (((leb 2 (length p) ≡ true) × (marked p ≡ true) × (leb 15 (length p) ≡ true))
-        × (((known (fieldsIn p .instance) ≡ false) × (1 ≡ n)) ⊎ ((known (fieldsIn p .instance) ≡ true) × (leb (fieldsIn p .text) mostCarried ≡ false) × (5 ≡ n))))
-        → readOf (p ++ rest) ≡ Refused n
-    by-cause (inl t) = rw (longer 2 (t .0), mark (t .0) ∙ t .1) (ap Refused (t .2))
-    by-cause (inr (t, inl u)) = rw (longer 2 (t .0), mark (t .0) ∙ t .1, longer 15 (t .2), fields (t .2), u .0) (ap Refused (u .1))
-    by-cause (inr (t, inr u)) = rw (longer 2 (t .0), mark (t .0) ∙ t .1, longer 15 (t .2), fields (t .2), u .0, u .1) (ap Refused (u .2))
+      fields : fieldsIn q ≡ fieldsIn p
+      fields = same-fields p q 15 same (omega arith)
+
+      by-cause : Why (leb 2 (length p)) (marked p) (leb 15 (length p)) (known (fieldsIn p .instance)) (leb (fieldsIn p .text) mostCarried) n → readOf q ≡ Refused n
+      by-cause (inl t) = rw (longer 2 (t .0) two, mark-same ∙ t .1) (ap Refused (t .2))
+      by-cause (inr (t, inl u)) = rw (longer 2 (t .0) two, mark-same ∙ t .1, longer 15 (t .2) same, fields, u .0) (ap Refused (u .1))
+      by-cause (inr (t, inr u)) = rw (longer 2 (t .0) two, mark-same ∙ t .1, longer 15 (t .2) same, fields, u .0, u .1) (ap Refused (u .2))

@@ -11,15 +11,15 @@ use Rattle.instances.specs.Schemes.{known}
 use Rattle.parcel.specs.declared.Fields.{Fields}
 use Rattle.parcel.specs.declared.Reading.{Reading}
 use Rattle.parcel.specs.declared.Reading.the-variants.{Whole, Refused}
-use Rattle.parcel.specs.Layout.{mostCarried}
+use Rattle.parcel.specs.Layout.{mark, mostCarried}
 
 -- so many bytes from a place on
 abbrev pub part : (at count : ℕ) → List ℕ → List ℕ
 part at count p = take count (drop at p)
 
--- A7 5C
+-- the mark's two bytes are there
 unfoldable pub marked : List ℕ → Bool
-marked p = eqb (getD p 0 0) 167 && eqb (getD p 1 0) 92
+marked p = eqb (getD p 0 0) (getD mark 0 0) && eqb (getD p 1 0) (getD mark 1 0)
 
 unfoldable pub fieldsIn : List ℕ → Fields
 fieldsIn p =

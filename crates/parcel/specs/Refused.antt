@@ -1,19 +1,21 @@
 -- Demand 1 for parcels: a refusal reports no rounds, hands the given counter back and leaves the output as it was; a reading that is refused
--- has all fields zero and no parts; and the number of each answer.
+-- has all fields zero and no parts; an opening that does not answer 0 has written nothing.
 -- Assumes nothing.
 use mathlib.Core.Path.{_≡_, refl, sym, ap}
 use mathlib.Core.Bool.{Bool, true, false}
 use mathlib.Core.List.{List, []}
 use Prim.Native.Nat.{ℕ, _+_}
 use lib.Dec.{eqb}
-use lib.ListN.{length}
+use lib.ListN.{length, take}
 use borrow.Author.Tests.{ne-eqb}
 use Rattle.bits.specs.Pick.{pick}
 use Rattle.scheme.specs.Scheme.{Scheme, allCount}
+use Rattle.isap.specs.Above.{opening-keeps}
 use Rattle.parcel.specs.declared.Built.{Built}
 use Rattle.parcel.specs.declared.Reading.{Reading}
-use Rattle.parcel.specs.declared.Reading.the-variants.{Refused}
-use Rattle.parcel.specs.Reading.{readOf, fieldsOf, cipherBy, tagBy}
+use Rattle.parcel.specs.declared.Reading.the-variants.{Whole, Refused}
+use Rattle.parcel.specs.Layout.{nonceOf}
+use Rattle.parcel.specs.Reading.{part, readOf, fieldsOf, cipherBy, tagBy}
 use Rattle.parcel.specs.Building.{refusal, builtOf, builtOut}
 use Rattle.parcel.specs.Opening.{openBy, outBy}
 use Rattle.parcel.specs.Statements.{Builds, OpensParcel}
@@ -47,3 +49,12 @@ module _ (p : List ℕ) (n : ℕ) (read : readOf p ≡ Refused n) where
 
   pub opening-refused : (of : ℕ → Scheme) (key out : List ℕ) → OpensParcel of key p out (record { number = n; rounds = 0 }) out
   opening-refused of key out = (sym (ap (λ (r : Reading). openBy of r key p out) read), sym (ap (λ (r : Reading). outBy of r key p out) read))
+
+-- and a wrong tag, or a length that isap refuses
+pub opening-kept : (of : ℕ → Scheme) (key p out : List ℕ) → (openBy of (readOf p) key p out .number ≡ 0 → ⊥) → outBy of (readOf p) key p out ≡ out
+opening-kept of key p out f = go (readOf p) f
+  where
+    go : (w : Reading) → (openBy of w key p out .number ≡ 0 → ⊥) → outBy of w key p out ≡ out
+    go (Whole g) f =
+        opening-keeps of (g .instance) key (nonceOf (g .station) (g .counter)) (take 15 p) (part 15 (g .text) p) (part (15 + g .text) 16 p) out f
+    go (Refused n) f = refl

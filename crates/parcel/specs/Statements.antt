@@ -15,13 +15,35 @@ use Rattle.parcel.specs.declared.Built.{Built}
 use Rattle.parcel.specs.declared.Reading.{Reading}
 use Rattle.parcel.specs.Layout.{nonceOf}
 use Rattle.parcel.specs.Building.{builtOf, builtOut}
-use Rattle.parcel.specs.Reading.{part, readOf, cipherAt, cipherBy, tagAt, tagBy}
+use Rattle.parcel.specs.Reading.{part, readOf, numberOf, fieldsOf, cipherAt, cipherBy, tagAt, tagBy}
 use Rattle.parcel.specs.Opening.{openBy, outBy}
 
 -- ---- reading
 
 abbrev pub Reads : (p : List ℕ) → Reading → Type 0
 Reads p r = r ≡ readOf p
+
+abbrev pub TellsNumber : Reading → ℕ → Type 0
+TellsNumber w r = r ≡ numberOf w
+
+abbrev pub TellsFields : Reading → Fields → Type 0
+TellsFields w r = r ≡ fieldsOf w
+
+-- the same for a host in C, which is told them of a buffer one by one
+abbrev pub NumberInC : (p : List ℕ) → ℕ → Type 0
+NumberInC p r = r ≡ numberOf (readOf p)
+
+abbrev pub InstanceInC : (p : List ℕ) → ℕ → Type 0
+InstanceInC p r = r ≡ fieldsOf (readOf p) .instance
+
+abbrev pub StationInC : (p : List ℕ) → ℕ → Type 0
+StationInC p r = r ≡ fieldsOf (readOf p) .station
+
+abbrev pub CounterInC : (p : List ℕ) → ℕ → Type 0
+CounterInC p r = r ≡ fieldsOf (readOf p) .counter
+
+abbrev pub TextInC : (p : List ℕ) → ℕ → Type 0
+TextInC p r = r ≡ fieldsOf (readOf p) .text
 
 -- r is a part of the buffer p itself: it starts so many bytes behind p's own start, and holds these bytes
 pub record IsPart (p r : RefT (List ℕ)) (at : ℕ) (bytes : List ℕ) : Type 0 where

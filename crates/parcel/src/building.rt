@@ -9,6 +9,8 @@ use crate::Fields;
 use crate::layout;
 use isap::Answer;
 
+const COUNTER_SPENT: u32 = 13;
+
 // 1, 2, 5, 6, 13 in this order, from the instance, the lengths and the last counter; 0 if none applies.
 fn build_refusal(instance: u32, key: usize, m: usize, out: usize, last: u64) -> u32
     ensures { λ r. ⌜ r ≡ buildRefusal schemeOf instance key m out last ⌝ }
@@ -22,11 +24,11 @@ fn build_refusal(instance: u32, key: usize, m: usize, out: usize, last: u64) -> 
     if (layout::MOST_CARRIED as usize) < m {
         return 5;
     }
-    if out != m + 31 {
+    if out != m + layout::ADDED {
         return 6;
     }
     if last == u64::MAX {
-        return 13;
+        return COUNTER_SPENT;
     }
     0
 }
@@ -39,14 +41,14 @@ fn put_parcel(fields: Fields, key: &[u8], text: &[u8], out: &mut [u8]) -> Answer
     let header = layout::header(fields);
     let nonce = layout::nonce(fields.station, fields.counter);
     let mut tag = [0u8; 16];
-    let end = 15 + text.len();
+    let end = layout::HEADER + text.len();
     let sealed = isap::seal(
         fields.instance,
         key,
         &nonce,
         &header,
         text,
-        &mut out[15..end],
+        &mut out[layout::HEADER..end],
         &mut tag,
     );
     bytes::copy(&header, out);

@@ -1,8 +1,8 @@
 // For a host in C: numbers and byte slices only. A slice is a pointer and a length.
 ghost use mathlib.Core.Path.{_≡_};
 ghost use Rattle.instances.specs.Schemes.{schemeOf};
-ghost use Rattle.parcel.specs.Reading.{readOf, numberOf, fieldsOf};
-ghost use Rattle.parcel.specs.Statements.{BuildsInC, OpensParcelInC};
+ghost use Rattle.parcel.specs.Reading.{readOf, fieldsOf};
+ghost use Rattle.parcel.specs.Statements.{BuildsInC, OpensParcelInC, NumberInC, InstanceInC, StationInC, CounterInC, TextInC};
 use crate::Fields;
 use crate::building;
 use crate::opening;
@@ -35,7 +35,7 @@ pub extern "C" fn parcel_open(key: &[u8], parcel: &[u8], out: &mut [u8]) -> u64
 // The number of a reading, and its fields, all zero on a refusal.
 #[no_mangle]
 pub extern "C" fn parcel_number(parcel: &[u8]) -> u32
-    ensures { λ r. ⌜ r ≡ numberOf (readOf (now (parcel .entry))) ⌝ }
+    ensures { λ r. ⌜ NumberInC (now (parcel .entry)) r ⌝ }
 {
     reader::number_of(reader::read(parcel))
 }
@@ -48,7 +48,7 @@ fn fields_read(parcel: &[u8]) -> Fields
 
 #[no_mangle]
 pub extern "C" fn parcel_instance(parcel: &[u8]) -> u32
-    ensures { λ r. ⌜ r ≡ fieldsOf (readOf (now (parcel .entry))) .instance ⌝ }
+    ensures { λ r. ⌜ InstanceInC (now (parcel .entry)) r ⌝ }
 {
     let fields = fields_read(parcel);
     fields.instance
@@ -56,7 +56,7 @@ pub extern "C" fn parcel_instance(parcel: &[u8]) -> u32
 
 #[no_mangle]
 pub extern "C" fn parcel_station(parcel: &[u8]) -> u16
-    ensures { λ r. ⌜ r ≡ fieldsOf (readOf (now (parcel .entry))) .station ⌝ }
+    ensures { λ r. ⌜ StationInC (now (parcel .entry)) r ⌝ }
 {
     let fields = fields_read(parcel);
     fields.station
@@ -64,7 +64,7 @@ pub extern "C" fn parcel_station(parcel: &[u8]) -> u16
 
 #[no_mangle]
 pub extern "C" fn parcel_counter(parcel: &[u8]) -> u64
-    ensures { λ r. ⌜ r ≡ fieldsOf (readOf (now (parcel .entry))) .counter ⌝ }
+    ensures { λ r. ⌜ CounterInC (now (parcel .entry)) r ⌝ }
 {
     let fields = fields_read(parcel);
     fields.counter
@@ -72,7 +72,7 @@ pub extern "C" fn parcel_counter(parcel: &[u8]) -> u64
 
 #[no_mangle]
 pub extern "C" fn parcel_text(parcel: &[u8]) -> u32
-    ensures { λ r. ⌜ r ≡ fieldsOf (readOf (now (parcel .entry))) .text ⌝ }
+    ensures { λ r. ⌜ TextInC (now (parcel .entry)) r ⌝ }
 {
     let fields = fields_read(parcel);
     fields.text

@@ -12,6 +12,13 @@ pub const FIRST_MARK: u8 = 0xA7;
 
 pub const SECOND_MARK: u8 = 0x5C;
 
+// Bytes of header and tag, and of both.
+pub const HEADER: usize = 15;
+
+pub const TAG: usize = 16;
+
+pub const ADDED: usize = 31;
+
 // Bytes of text that a parcel can carry, which the definitions have as `mostCarried`.
 pub const MOST_CARRIED: u32 = 4096;
 

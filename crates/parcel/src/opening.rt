@@ -15,14 +15,14 @@ fn open_whole(key: &[u8], fields: Fields, parcel: &[u8], out: &mut [u8]) -> Answ
     ensures { λ r. ⌜ OpensWhole schemeOf (now (key .entry)) fields (now (parcel .entry)) (now (out .entry)) r (now (out .exit)) ⌝ }
 {
     let nonce = layout::nonce(fields.station, fields.counter);
-    let end = 15 + fields.text as usize;
-    let last = end + 16;
+    let end = layout::HEADER + fields.text as usize;
+    let last = end + layout::TAG;
     isap::open(
         fields.instance,
         key,
         &nonce,
-        &parcel[..15],
-        &parcel[15..end],
+        &parcel[..layout::HEADER],
+        &parcel[layout::HEADER..end],
         &parcel[end..last],
         out,
     )

@@ -2,13 +2,16 @@
 ghost use mathlib.Core.Path.{_≡_};
 ghost use Prim.Native.Nat.{_≤_};
 ghost use lib.ListN.{length};
-ghost use Rattle.parcel.specs.Reading.{marked, fieldsIn, numberOf, fieldsOf};
-ghost use Rattle.parcel.specs.Statements.{Reads, GivesCipher, GivesTag};
+ghost use Rattle.parcel.specs.Reading.{marked, fieldsIn};
+ghost use Rattle.parcel.specs.Statements.{Reads, TellsNumber, TellsFields, GivesCipher, GivesTag};
 use crate::Fields;
 use crate::Reading;
+use crate::layout::ADDED;
 use crate::layout::FIRST_MARK;
+use crate::layout::HEADER;
 use crate::layout::MOST_CARRIED;
 use crate::layout::SECOND_MARK;
+use crate::layout::TAG;
 use crate::layout::number_at;
 
 const WRONG_MARK: u32 = 12;
@@ -47,7 +50,7 @@ pub fn read(parcel: &[u8]) -> Reading
     if !is_marked(parcel) {
         return Reading::Refused(WRONG_MARK);
     }
-    if parcel.len() < 15 {
+    if parcel.len() < HEADER {
         return Reading::Refused(CUT_SHORT);
     }
     let fields = fields_in(parcel);
@@ -57,7 +60,7 @@ pub fn read(parcel: &[u8]) -> Reading
     if MOST_CARRIED < fields.text {
         return Reading::Refused(5);
     }
-    if parcel.len() < 31 + fields.text as usize {
+    if parcel.len() < ADDED + fields.text as usize {
         return Reading::Refused(CUT_SHORT);
     }
     Reading::Whole(fields)
@@ -65,7 +68,7 @@ pub fn read(parcel: &[u8]) -> Reading
 
 // The number of a reading: 0 of a whole parcel.
 pub fn number_of(reading: Reading) -> u32
-    ensures { λ r. ⌜ r ≡ numberOf reading ⌝ }
+    ensures { λ r. ⌜ TellsNumber reading r ⌝ }
 {
     let Reading::Refused(number) = reading else {
         return 0;
@@ -75,7 +78,7 @@ pub fn number_of(reading: Reading) -> u32
 
 // The fields of a reading: all zero on a refusal.
 pub fn fields_of(reading: Reading) -> Fields
-    ensures { λ r. ⌜ r ≡ fieldsOf reading ⌝ }
+    ensures { λ r. ⌜ TellsFields reading r ⌝ }
 {
     let Reading::Whole(fields) = reading else {
         return Fields {
@@ -95,8 +98,8 @@ pub fn cipher(parcel: &[u8]) -> &[u8]
     let Reading::Whole(fields) = read(parcel) else {
         return &parcel[..0];
     };
-    let end = 15 + fields.text as usize;
-    &parcel[15..end]
+    let end = HEADER + fields.text as usize;
+    &parcel[HEADER..end]
 }
 
 // The tag, as a part of the buffer; empty on a refusal.
@@ -106,7 +109,7 @@ pub fn tag(parcel: &[u8]) -> &[u8]
     let Reading::Whole(fields) = read(parcel) else {
         return &parcel[..0];
     };
-    let start = 15 + fields.text as usize;
-    let end = start + 16;
+    let start = HEADER + fields.text as usize;
+    let end = start + TAG;
     &parcel[start..end]
 }

@@ -10,7 +10,7 @@ use Rattle.bits.specs.Part.{length-part}
 use Rattle.instances.specs.Schemes.{schemeOf, lawful-scheme}
 use Rattle.isap.specs.Statements.{Seals}
 use Rattle.parcel.specs.Layout.{nonceOf, parcelOf}
-use Rattle.parcel.specs.Layouts.{header-long}
+use Rattle.parcel.specs.Lengths.{header-long}
 use Rattle.parcel.specs.Fits.{cipher-long, tag-long, sealed-parts}
 use Rattle.parcel.proofs.Pieces.{put-together}
 use Rattle.parcel.proofs.building.put_parcel.Statement.{statement}

@@ -1,7 +1,7 @@
 -- `parcel::layout::header` meets its contract: the mark, and four numbers written one behind the other.
 -- Assumes nothing.
 use mathlib.Core.Path.{refl, _∙_}
-use mathlib.Core.List.{_∷_, append-nil}
+use mathlib.Core.List.{_++_, append-nil}
 use lib.ListN.{replicate}
 use borrow.Author.Needs.{needs}
 use Rattle.bits.specs.BigEndian.{beBytes, length-beBytes}
@@ -10,7 +10,7 @@ use Rattle.parcel.specs.Layout.{mark, headerOf}
 use Rattle.parcel.proofs.layout.header.Statement.{statement}
 use Rattle.parcel.proofs.layout.header.Tie as tie
 
-start : Written mark 2 (167 ∷ 92 ∷ replicate 13 0) (replicate 15 0)
+start : Written mark 2 (mark ++ replicate 13 0) (replicate 15 0)
 start = record { is = refl; long = refl }
 
 returns : tie.Need-returns

@@ -10,7 +10,7 @@ use Rattle.parcel.specs.declared.Fields.{Fields}
 use Rattle.parcel.specs.declared.Reading.{Reading}
 use Rattle.parcel.specs.declared.Reading.the-variants.{Whole}
 use Rattle.parcel.specs.Reading.{readOf, numberOf}
-use Rattle.parcel.specs.Readings.{body-there}
+use Rattle.parcel.specs.Wholes.{body-there}
 use Rattle.parcel.specs.Opening.{openBy, outBy}
 use Rattle.parcel.specs.Refused.{opening-refused}
 use Rattle.parcel.specs.Statements.{OpensWhole, OpensParcel}

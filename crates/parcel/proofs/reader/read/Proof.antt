@@ -12,7 +12,7 @@ use Rattle.parcel.specs.declared.Fields.{Fields}
 use Rattle.parcel.specs.declared.Reading.the-variants.{Whole, Refused}
 use Rattle.parcel.specs.Layout.{mostCarried}
 use Rattle.parcel.specs.Reading.{marked, fieldsIn, readOf}
-use Rattle.parcel.specs.Readings.{reads-whole}
+use Rattle.parcel.specs.Wholes.{reads-whole}
 use Rattle.parcel.proofs.reader.read.Statement.{statement}
 use Rattle.parcel.proofs.reader.read.Tie as tie
 
