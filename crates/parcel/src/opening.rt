@@ -1,5 +1,4 @@
 // Opening a parcel: read, and by its parts isap's whole call.
-ghost use mathlib.Core.Path.{_≡_};
 ghost use Prim.Native.Nat.{_+_, _≤_};
 ghost use lib.ListN.{length};
 ghost use Rattle.instances.specs.Schemes.{schemeOf};
