@@ -79,6 +79,20 @@ fn spoilt(causes: &[u32], turn: usize) -> Sending {
     sending
 }
 
+/// Each cause alone, next to what is right, with the number that it must give.
+fn just_wrong(instance: u32) -> [(Sending, u32); 6] {
+    let sending = || right(instance, 12, 41, 18);
+    let out = sending().out;
+    [
+        (Sending { key: 15, ..sending() }, KEY_LENGTH),
+        (Sending { key: 17, ..sending() }, KEY_LENGTH),
+        (right(instance, 12, 41, 4097), TEXT_TOO_LONG),
+        (Sending { out: out - 1, ..sending() }, OUTPUT_LENGTH),
+        (Sending { out: out + 1, ..sending() }, OUTPUT_LENGTH),
+        (Sending { last: u64::MAX, ..sending() }, COUNTER_AT_ITS_LARGEST),
+    ]
+}
+
 pub fn cases() -> Written {
     let mut file = Written::default();
     let mut numbers = Numbers::new(500);
@@ -90,6 +104,9 @@ pub fn cases() -> Written {
         for turn in 0..5 {
             assert!(write(&mut file, numbers.next(), &spoilt(&causes, turn)) == causes[0], "the first cause is the answer");
         }
+    }
+    for (sending, number) in (1..=4).flat_map(just_wrong) {
+        assert!(write(&mut file, numbers.next(), &sending) == number, "one cause is the answer");
     }
     file
 }

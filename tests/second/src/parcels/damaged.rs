@@ -73,7 +73,7 @@ fn write_lengths(file: &mut Written, received: &Received) {
     let refused = read(&received.buffer).err();
     for key in [15, 16, 17] {
         let refused = refused.or((key != 16).then_some(KEY_LENGTH));
-        for out in [received.out - 1, received.out, received.out + 1] {
+        for out in [received.out.saturating_sub(1), received.out, received.out + 1] {
             let refused = refused.or((out != received.out).then_some(OUTPUT_LENGTH));
             let number = write(file, &Received { key, out, ..received.clone() });
             assert!(refused.map_or(true, |first| number == first), "refusals have their order");
@@ -100,6 +100,7 @@ pub fn cases() -> Written {
         write_mark(&mut file, &parcel);
         write_headers(&mut file, &parcel, instance);
         write_all_lengths(&mut file, &parcel);
+        write_lengths(&mut file, &empty);
         let with_another_key = Received { seed: numbers.next(), ..parcel };
         assert!(write(&mut file, &with_another_key) == TAG_DIFFERS, "another key does not open it");
     }
