@@ -15,7 +15,7 @@ use Rattle.parcel.proofs.opening.open_whole.Tie as tie
 slice-aggregate-open-2 : tie.Need-slice-aggregate-open-2
 slice-aggregate-open-2 c =
     let p = c .before .before .before .before .before .before .before .args .parcel .now in
-    sym (length-take-le 15 p (omega arith))
+    sym (length-take-le _ p (omega arith))
 
 returns : tie.Need-returns
 returns c =
