@@ -4,3 +4,4 @@ pub mod Written
 pub mod StepLaws
 pub mod ByteLaws
 pub mod Blocks
+pub mod AheadLaws

@@ -22,7 +22,7 @@ pub fn round(a: [[u16; 5]; 5], i: u32) -> [[u16; 5]; 5]
     requires { ⌜ i < 20 ⌝ }
     ensures { λ r. ⌜ bytesOf r ≡ keccakRound i (bytesOf a) ⌝ }
 {
-    iota::iota(chi::chi(rho_pi::rho_pi(theta::theta(a))), i)
+    run(a, i, 1)
 }
 
 // The rounds of the indices from `from` on, `count` of them.
@@ -31,11 +31,15 @@ pub fn run(a: [[u16; 5]; 5], from: u32, count: u32) -> [[u16; 5]; 5]
     ensures { λ r. ⌜ bytesOf r ≡ Rounds keccakRound from count (bytesOf a) ⌝ }
 {
     let mut s = a;
+    let mut w = iota::start(from);
     let mut k: u32 = 0;
     while k < count {
-        // two steps: `s = round(..)` is not covered for an array of arrays
-        let t = round(s, from + k);
+        let n = iota::next(w);
+        let c = iota::constant(w);
+        // two steps: `s = iota(..)` is not covered for an array of arrays
+        let t = iota::iota(chi::chi(rho_pi::rho_pi(theta::theta(s))), c);
         s = t;
+        w = n;
         k += 1;
     }
     s

@@ -1,20 +1,20 @@
--- `keccak::round` meets its contract: the steps on lanes are a round on bits, and so on bytes.
+-- `keccak::round` meets its contract: it is a run of one round.
 -- Assumes nothing.
-use Rattle.keccak.specs.Agree.{round-steps}
-use Rattle.keccak.specs.Lanes.{arrayOf}
-use Rattle.keccak.proofs.ByteLaws.{round-bytes}
+use mathlib.Core.Path.{_≡_, _∙_}
+use Prim.Native.Nat.{_+_}
+use native.Mathlib.Omega.{arith}
+use Rattle.bits.specs.Run.{rounds-none, rounds-more}
+use Rattle.keccak.specs.Fips202.{keccakRound}
+use Rattle.keccak.specs.Lanes.{bytesOf}
 use Rattle.keccak.proofs.round.Statement.{statement}
 use Rattle.keccak.proofs.round.Tie as tie
 
 returns : tie.Need-returns
 returns c =
-    let x = c .before in
-    let p = x .before in
-    let t = p .before in
-    let s = t .before .args in
-    round-bytes (s .i) (s .a) (c .iota .result)
-    (round-steps (s .i) (arrayOf (s .a)) (arrayOf (t .theta .result)) (arrayOf (p .rho-pi .result)) (arrayOf (x .chi .result)) (arrayOf (c .iota .result))
-    (t .theta .ensures) (p .rho-pi .ensures) (x .chi .ensures) (c .iota .ensures))
+    let s = c .before .args in
+    let same : s .i + 0 ≡ s .i = omega arith in
+    c .run .ensures ∙ rounds-more keccakRound (s .i) 0 (bytesOf (s .a))
+    ∙ (λ j. keccakRound (same j) (rounds-none keccakRound (s .i) (bytesOf (s .a)) j))
 
 pub round-spec : {M : Type 1} → statement M
-round-spec = tie.close (tie.spec (λ c κs. tt) (λ c κs. tt) (λ c κs. tt) (λ c κs. c .before .before .before .pre) returns)
+round-spec = tie.close (tie.spec (λ c κs. omega arith) returns)

@@ -10,11 +10,10 @@ use Rattle.keccak.proofs.iota.iota.Statement.{statement}
 use Rattle.keccak.proofs.iota.iota.Tie as tie
 
 returns : tie.Need-returns
-returns c =
-    let s = c .before .before in
+returns c i h =
+    let s = c .before in
     let l : length (s .args .a) ≡ 5 = five-planes (s .args .a) _ (s .good .0) in
-    iota-bits (s .args .a) (c .before .round-constant .result) (s .args .i) l
-    (five-lanes (s .args .a) _ (s .good .0) 0 (omega (arith, l))) (c .before .round-constant .ensures)
+    iota-bits (s .args .a) (s .args .c) i l (five-lanes (s .args .a) _ (s .good .0) 0 (omega (arith, l))) h
 
 pub iota-spec : {M : Type 1} → statement M
-iota-spec = tie.close (tie.spec (λ c κs. c .pre) (λ c. lit< tt) (λ c. lit< tt) (λ c. lit< tt) (λ c. lit< tt) returns)
+iota-spec = tie.close (tie.spec (λ c. lit< tt) (λ c. lit< tt) (λ c. lit< tt) (λ c. lit< tt) returns)
