@@ -1,5 +1,5 @@
--- A reader may skip this file: what `rounds` promises speaks of bytes alone. It is how the code holds the shift register of algorithm 5: not
--- its eight bits, but the 32 bits that it gives next, as a number; and what the private functions make of one. That these are the
+-- A reader may skip this file: what `rounds` promises speaks of bytes alone. It is how the code holds the shift register of algorithm 5:
+-- not its eight bits, but the 32 bits that it gives next, as a number; and what the private functions make of one. That these are the
 -- register's bits, and the constants', is shown where the code is proved, at every round index.
 -- Assumes nothing.
 use Prim.Native.Nat.{ℕ, _+_, _-_, _*_, _/_, _%_, _^_}

@@ -34,12 +34,13 @@ pub fn run(a: [[u16; 5]; 5], from: u32, count: u32) -> [[u16; 5]; 5]
     let mut w = iota::start(from);
     let mut k: u32 = 0;
     while k < count {
-        let n = iota::next(w);
+        // in this order the compiler makes the fewest copies of lanes
+        let after = iota::next(w);
         let c = iota::constant(w);
         // two steps: `s = iota(..)` is not covered for an array of arrays
         let t = iota::iota(chi::chi(rho_pi::rho_pi(theta::theta(s))), c);
         s = t;
-        w = n;
+        w = after;
         k += 1;
     }
     s

@@ -10,7 +10,7 @@ use Rattle.keccak.specs.Agree.{round-steps}
 use Rattle.keccak.specs.Ahead.{ahead, later, spread}
 use Rattle.keccak.specs.Fips202.{RC, keccakRound}
 use Rattle.keccak.specs.Lanes.{arrayOf, bytesOf}
-use Rattle.keccak.proofs.AheadLaws.{next-ahead, constant-bits}
+use Rattle.keccak.proofs.AheadLaws.{later-ahead, constant-bits}
 use Rattle.keccak.proofs.ByteLaws.{round-bytes}
 use Rattle.keccak.proofs.run.Statement.{statement}
 use Rattle.keccak.proofs.run.Tie as tie
@@ -48,7 +48,7 @@ loop-again c =
     let on : suc i ≡ s .from + (at .k + 1) = omega arith in (
       omega arith,
       rounds-next keccakRound (s .from) (at .k) (bytesOf (s .a)) (bytesOf (at .s)) (bytesOf (c .iota .result)) (at .inv .1) lanes,
-      n .next .ensures ∙ ap later (at .inv .2) ∙ next-ahead i low ∙ ap ahead on,
+      n .next .ensures ∙ ap later (at .inv .2) ∙ later-ahead i low ∙ ap ahead on,
     )
 
 returns : tie.Need-returns Inv-loop μ-loop

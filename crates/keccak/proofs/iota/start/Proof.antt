@@ -8,7 +8,7 @@ use borrow.Author.Needs.{needs}
 use Rattle.bits.specs.Number.{number}
 use Rattle.keccak.specs.Ahead.{ahead, earlier}
 use Rattle.keccak.specs.Fips202.{start, shifted, register, rc}
-use Rattle.keccak.proofs.AheadLaws.{start-ahead}
+use Rattle.keccak.proofs.AheadLaws.{earlier-ahead}
 use Rattle.keccak.proofs.iota.start.Statement.{statement}
 use Rattle.keccak.proofs.iota.start.Tie as tie
 
@@ -46,7 +46,7 @@ loop-again c =
     let from : i + l .loop .left ≡ j + suc m = omega arith in (
       omega arith,
       back .earlier .ensures ∙ (λ k. earlier (one k) (inv .1 k)) ∙ ap (λ (v : ℕ). earlier (suc m) (ahead v)) from
-          ∙ start-ahead m j (omega arith) (omega arith),
+          ∙ earlier-ahead m j (omega arith) (omega arith),
     )
 
 returns : tie.Need-returns Inv-loop μ-loop
