@@ -59,7 +59,7 @@ function spelled(n,    digits, s) {
 # The rounds of a sealing, and of an opening with a right tag.
 function rounds(i, a, m,    blocks) {
     blocks = int((m + block[i] - 1) / block[i])
-    return hash[i] * (int(a / block[i]) + int(m / block[i]) + 4) + rekey[i] + (m ? rekey[i] + encrypt[i] * blocks : 0)
+    return hash[i] * (int(a / block[i]) + int(m / block[i]) + 4) + 2 * rekey[i] + encrypt[i] * blocks
 }
 
 function ratio(k) {

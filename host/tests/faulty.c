@@ -32,6 +32,14 @@ static uint64_t spoiled(uint64_t answer)
     return answer;
 }
 
+/* An empty text as if it were not re-keyed for. */
+static uint64_t counted(uint64_t answer, uint32_t instance, size_t assoc_len, size_t text_len)
+{
+    if (fault("empty_text_counted_short") && isap_number(answer) == ISAP_ENDED_WELL && text_len == 0)
+        return isap_plan_verify(instance, (uint32_t)assoc_len, 0);
+    return spoiled(answer);
+}
+
 uint64_t __wrap_isap_seal(uint32_t instance, const uint8_t *key, size_t key_len, const uint8_t *nonce, size_t nonce_len,
                           const uint8_t *assoc, size_t assoc_len, const uint8_t *text, size_t text_len, uint8_t *out, size_t out_len,
                           uint8_t *tag, size_t tag_len)
@@ -51,7 +59,7 @@ uint64_t __wrap_isap_seal(uint32_t instance, const uint8_t *key, size_t key_len,
         flip(out);
     if (fault("another_tag") && well)
         flip(tag);
-    return spoiled(answer);
+    return counted(answer, instance, assoc_len, text_len);
 }
 
 uint64_t __wrap_isap_open(uint32_t instance, const uint8_t *key, size_t key_len, const uint8_t *nonce, size_t nonce_len,
@@ -73,5 +81,5 @@ uint64_t __wrap_isap_open(uint32_t instance, const uint8_t *key, size_t key_len,
         flip(out);
     if (fault("plaintext_bit") && isap_number(answer) == ISAP_ENDED_WELL && out_len > 0)
         flip(out + out_len - 1);
-    return spoiled(answer);
+    return counted(answer, instance, assoc_len, text_len);
 }

@@ -111,11 +111,17 @@ static void rounds_of(uint32_t instance, size_t assoc, size_t text, uint32_t ver
 static void document_01_table(void)
 {
     static const uint32_t table[][5] = {
-        {1, 0, 0, 199, 199},         {1, 0, 7, 199, 356},  {1, 1, 8, 211, 368},   {1, 0, 9, 211, 374},     {2, 0, 0, 1596, 1596},
-        {2, 256, 4096, 8124, 15816}, {3, 17, 17, 207, 358}, {3, 18, 18, 239, 390}, {4, 0, 0, 1628, 1628}, {4, 256, 4096, 6448, 10732},
+        {1, 0, 0, 199, 350},         {1, 0, 7, 199, 356},  {1, 1, 8, 211, 368},   {1, 0, 9, 211, 374},     {2, 0, 0, 1596, 3144},
+        {2, 256, 4096, 8124, 15816}, {3, 17, 17, 207, 358}, {3, 18, 18, 239, 390}, {4, 0, 0, 1628, 3176}, {4, 256, 4096, 6448, 10732},
     };
     for (size_t i = 0; i < sizeof table / sizeof table[0]; i++)
         rounds_of(table[i][0], table[i][1], table[i][2], table[i][3], table[i][4]);
+}
+
+/* An empty text is re-keyed for; instances 1, 2 and 4 stand in the table. */
+static void empty_heartbeat(void)
+{
+    rounds_of(3, 0, 0, 207, 350);
 }
 
 static void plans_refused(void)
@@ -135,6 +141,7 @@ int main(void)
     refusals_alone();
     lengths_above_32_bits();
     document_01_table();
+    empty_heartbeat();
     plans_refused();
     return checks_ended("numbers");
 }

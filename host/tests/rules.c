@@ -43,6 +43,6 @@ uint32_t rules_total(uint32_t instance, size_t assoc, size_t text)
 {
     uint32_t block = instances[instance].block;
     uint32_t blocks = ((uint32_t)text + block - 1) / block;
-    uint32_t encryption = text == 0 ? 0 : rekeying(instance) + instances[instance].sE * blocks;
+    uint32_t encryption = rekeying(instance) + instances[instance].sE * blocks;
     return encryption + rules_verify(instance, assoc, text);
 }

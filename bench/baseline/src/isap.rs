@@ -60,9 +60,6 @@ fn rekey<I: Instance>(key: &[u8; 16], flag: u64, string: [u64; 2]) -> I::State {
 
 #[inline(never)]
 fn encrypt<I: Instance>(lent: &Lent, text: &[u8], out: &mut [u8]) {
-    if text.is_empty() {
-        return;
-    }
     let block = I::State::BLOCK;
     let nonce = words_of(lent.nonce);
     let mut state = rekey::<I>(lent.key, REKEY_ENCRYPT, nonce);

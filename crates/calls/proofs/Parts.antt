@@ -11,7 +11,7 @@ use Rattle.bits.specs.Every.{upto-at}
 use Rattle.bits.specs.Run.{turns, run}
 use Rattle.bits.specs.Strings.{same}
 use Rattle.stopping.specs.Parts.{Shape, Part}
-use Rattle.stopping.specs.Places.{partAt}
+use Rattle.stopping.specs.Places.{partAt, shapeAt}
 use Rattle.stopping.specs.Course.{parts}
 use Rattle.stopping.specs.Wholes.{wholes}
 use Rattle.scheme.specs.Machine.{Machine, Input, machine, given, onState}
@@ -22,10 +22,10 @@ use Rattle.mode.specs.Params.{Params}
 use Rattle.mode.specs.Parts.{sealingCourse, openingCourse, course}
 use Rattle.mode.specs.Instances.{paramsOf}
 use Rattle.mode.specs.Calls.{turns-run-from}
-use Rattle.mode.specs.Counts.{allShapes}
+use Rattle.mode.specs.Counts.{allShapes, encShapes, macShapes}
 use Rattle.mode.specs.Isap.{isapScheme}
 use Rattle.instances.specs.Schemes.{schemeOf, lawful-scheme}
-use Rattle.plan.specs.Kinds.{kindOf, shapeOf, eleven-parts, shape-of-part, rounds-most, text-calls}
+use Rattle.plan.specs.Kinds.{kindOf, shapeOf, eleven-parts, shape-of-part, rounds-most}
 use Rattle.sponge.specs.Kinds.{partOf, CanEnter, Entered}
 use Rattle.sponge.specs.Leaves.{CanLeave, outLeft, tagLeft, shape-of, turn-of, leave-of}
 use Rattle.rows.specs.Gone.{many, CanGo, Gone}
@@ -76,13 +76,12 @@ module _ (instance : ℕ) (sealing : Bool) (part : ℕ) where
           }
 
       pub can-leave : CanLeave instance kind call text out
+      unfolding shapeOf shapeAt encShapes macShapes
       can-leave =
           record {
             isKind = small;
             outLong = long;
-            isCall = λ three.
-                text-calls (paramsOf instance) (length assoc) (length text) call
-                (subst (λ (q : ℕ). call < shapeOf (paramsOf instance) (length assoc) (length text) q .count) three is-call);
+            isCall = λ three. subst (λ (q : ℕ). call < shapeOf (paramsOf instance) (length assoc) (length text) q .count) three is-call;
           }
 
     module _ (rounds : ℕ) (r : (a m : ℕ) → rounds ≡ shapeOf (paramsOf instance) a m kind .rounds) (round count : ℕ) where

@@ -1,5 +1,8 @@
 // Runs the cases of document 01 over the library's calls and prints what they answer. Byte strings are compared here, one buffer with
 // another; the file stdout holds the document's numbers.
+mod heartbeats;
+
+use heartbeats::heartbeat;
 use isap::Job;
 use libc::STDOUT_FILENO;
 
@@ -301,4 +304,8 @@ fn main() {
     once(b"an opening begun", opening(tag), 0);
     once(b"a sealing ended", ended, 1);
     once(b"an opening ended by a wrong tag", stopped, 1);
+    heartbeat(1);
+    heartbeat(2);
+    heartbeat(3);
+    heartbeat(4);
 }

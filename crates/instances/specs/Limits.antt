@@ -2,9 +2,8 @@
 -- Assumes nothing.
 use mathlib.Core.Path.{_≡_, refl}
 use mathlib.Core.Bool.{Bool, true, false}
-use Prim.Native.Nat.{ℕ, zero, suc, _+_, _/_, _≤_}
+use Prim.Native.Nat.{ℕ, _+_, _/_, _≤_}
 use native.Mathlib.Omega.{arith}
-use Rattle.scheme.specs.Machine.{unlessEmpty}
 use Rattle.scheme.specs.Scheme.{allCount}
 use Rattle.mode.specs.Paper.{blocks}
 use Rattle.mode.specs.InstanceLaws.{by-instance}
@@ -34,11 +33,6 @@ mostCalls = mostText / 8 + 1
 
 -- ---- they are the largest: within the limits no job takes more, and one takes as many
 
-pub unless-most : (m k n : ℕ) → k ≤ n → unlessEmpty m k ≤ n
-unfolding unlessEmpty
-unless-most zero k n h = omega arith
-unless-most (suc m) k n h = h
-
 pub verify-most : (i a m : ℕ) → a ≤ mostAssoc → m ≤ mostText → verifyRounds (paramsOf i) a m ≤ mostVerify
 unfolding verifyRounds rekeyRounds isapA128a isapA128 isapK128a isapK128
 verify-most i a m ha hm =
@@ -49,11 +43,8 @@ unfolding encryptRounds rekeyRounds blocks isapA128a isapA128 isapK128a isapK128
 both-most i a m ha hm =
     let v = verify-most i a m ha hm in
     let e : encryptRounds (paramsOf i) m + mostVerify ≤ mostRounds =
-    by-instance (λ p. encryptRounds p m + mostVerify ≤ mostRounds) (within _ (omega arith)) (within _ (omega arith)) (within _ (omega arith)) (within _ (omega arith)) i in
+    by-instance (λ p. encryptRounds p m + mostVerify ≤ mostRounds) (omega arith) (omega arith) (omega arith) (omega arith) i in
     omega (arith, v, e)
-  where
-    within : (k : ℕ) → k + mostVerify ≤ mostRounds → unlessEmpty m k + mostVerify ≤ mostRounds
-    within k h = omega (arith, unless-most m k k (omega arith))
 
 pub blocks-most : (i m : ℕ) → m ≤ mostText → blocks (paramsOf i) m ≤ mostText / 8
 unfolding blocks isapA128a isapA128 isapK128a isapK128
@@ -68,5 +59,5 @@ unfolding allCount schemeOf isapScheme
 total-most i b a m ha hm = omega (arith, all-count (paramsOf i) b a m, both-most i a m ha hm)
 
 pub largest : allCount (schemeOf 2) true mostAssoc mostText ≡ mostRounds
-unfolding allCount schemeOf isapScheme frontCount backCount verifyRounds encryptRounds rekeyRounds blocks unlessEmpty paramsOf isapA128
+unfolding allCount schemeOf isapScheme frontCount backCount verifyRounds encryptRounds rekeyRounds blocks paramsOf isapA128
 largest = refl

@@ -11,7 +11,7 @@ use Rattle.bits.specs.Every.{and-left, and-right}
 use Rattle.stopping.specs.Stopped.{total}
 use Rattle.stopping.specs.Parts.{row, total-row}
 use Rattle.mode.specs.Paper.{blocks}
-use Rattle.scheme.specs.Machine.{Input, unlessEmpty}
+use Rattle.scheme.specs.Machine.{Input}
 use Rattle.mode.specs.Parts.{encParts, macParts}
 use Rattle.mode.specs.CountLaws.{rounds-mac, front-count, shapes-mac, shapes-sealing}
 use Rattle.mode.specs.Counts.{rekeyRounds, verifyRounds, encryptRounds, frontCount, frontShapes}
@@ -30,17 +30,21 @@ case i a m v t = record { instance = i; a = a; m = m; verify = v; all = t }
 
 unfoldable pub cases : List Case
 cases =
-    case 1 0 0 199 199
+    case 1 0 0 199 350
     ∷ case 1 0 7 199 356
     ∷ case 1 1 8 211 368
     ∷ case 1 0 9 211 374
-    ∷ case 2 0 0 1596 1596
+    ∷ case 2 0 0 1596 3144
     ∷ case 2 256 4096 8124 15816
     ∷ case 3 17 17 207 358
     ∷ case 3 18 18 239 390
-    ∷ case 4 0 0 1628 1628
+    ∷ case 4 0 0 1628 3176
     ∷ case 4 256 4096 6448 10732
     ∷ []
+
+-- document 02's totals of an empty heartbeat, with a = 0 and m = 0, in instances 1 to 4
+unfoldable pub heartbeats : List Case
+heartbeats = case 1 0 0 199 350 ∷ case 2 0 0 1596 3144 ∷ case 3 0 0 207 350 ∷ case 4 0 0 1628 3176 ∷ []
 
 -- what a line says, of every input of its lengths: the rows' rounds
 unfoldable pub Holds : Case → Type 0
@@ -83,5 +87,9 @@ each-holds (t ∷ ts) e = (line-holds t (and-left (right t) (allRight ts) e), ea
 
 -- every line of the table holds
 pub table-holds : Each Holds cases
-unfolding cases allRight right paramsOf isapA128a isapA128 isapK128a isapK128 verifyRounds encryptRounds rekeyRounds unlessEmpty blocks
+unfolding cases allRight right paramsOf isapA128a isapA128 isapK128a isapK128 verifyRounds encryptRounds rekeyRounds blocks
 table-holds = each-holds cases refl
+
+pub heartbeats-hold : Each Holds heartbeats
+unfolding heartbeats allRight right paramsOf isapA128a isapA128 isapK128a isapK128 verifyRounds encryptRounds rekeyRounds blocks
+heartbeats-hold = each-holds heartbeats refl

@@ -3,8 +3,8 @@
 use mathlib.Core.Path.{_≡_, refl, sym, ap, ap₂, _∙_, subst}
 use mathlib.Core.Bool.{Bool, true, false}
 use mathlib.Core.List.{_++_}
-use Prim.Native.Nat.{ℕ, zero, suc, _+_, _*_, _/_, _<_}
-use native.Mathlib.Nat.{add-mul, mul-comm}
+use Prim.Native.Nat.{ℕ, _+_, _-_, _*_, _/_, _<_}
+use native.Mathlib.Nat.{add-mul, mul-comm, div-eq-of-lt}
 use native.Mathlib.Omega.{arith}
 use lib.ListN.{length}
 use Rattle.bits.specs.Pick.{pick}
@@ -12,7 +12,7 @@ use Rattle.stopping.specs.Parts.{roundsIn, EachSome, shapes, roundsIn-append, s
 use Rattle.stopping.specs.Course.{frontRounds, backRounds, Lawful}
 use Rattle.mode.specs.Params.{Params, LawfulParams}
 use Rattle.mode.specs.Paper.{blocks}
-use Rattle.scheme.specs.Machine.{Input, unlessEmpty}
+use Rattle.scheme.specs.Machine.{Input}
 use Rattle.mode.specs.Parts.{part, keyStart, keyBits, keyEnd, texts, macStart, assocs, ciphers, macKeyStart, macKeyBits, macKeyEnd, macEnd, encParts, macParts, sealingCourse, openingCourse, course}
 use Rattle.mode.specs.Counts.{rekeyRounds, verifyRounds, encryptRounds, encShapes, macShapes, frontShapes, backShapes, frontCount, backCount}
 
@@ -27,9 +27,8 @@ module _ (p : Params) where
       omega (arith, add-mul i 1 (p .sH), add-mul j 1 (p .sH))
 
   pub rounds-enc : (a m : ℕ) → roundsIn (encShapes p a m) ≡ encryptRounds p m
-  unfolding roundsIn encShapes encryptRounds rekeyRounds unlessEmpty
-  rounds-enc a zero = omega arith
-  rounds-enc a (suc m) = rw (mul-comm (p .sE) (blocks p (suc m))) (omega arith)
+  unfolding roundsIn encShapes encryptRounds rekeyRounds
+  rounds-enc a m = rw (mul-comm (p .sE) (blocks p m)) (omega arith)
 
   module _ (x : Input) where
     pub shapes-mac : shapes (macParts p x) ≡ macShapes p (length (x .assoc)) (length (x .text))
@@ -115,6 +114,17 @@ module _ (p : Params) (l : LawfulParams p) where
   verify-some : (a m : ℕ) → 0 < verifyRounds p a m
   unfolding verifyRounds rekeyRounds
   verify-some a m = let k = l .someK in omega arith
+
+  -- whatever the text, its encryption has rounds: those of the re-keying, which are all that an empty one takes
+  pub encrypt-some : (m : ℕ) → 0 < encryptRounds p m
+  unfolding encryptRounds rekeyRounds
+  encrypt-some m = let k = l .someK in omega arith
+
+  pub encrypt-empty : (m : ℕ) → m ≡ 0 → encryptRounds p m ≡ rekeyRounds p
+  unfolding encryptRounds blocks
+  encrypt-empty m e =
+      let none : (m + (p .b - 1)) / p .b ≡ 0 = div-eq-of-lt (omega (arith, l .block)) in
+      omega (arith, ap (λ (k : ℕ). p .sE * k) none)
 
   pub front-pos : (b : Bool) (a m : ℕ) → 0 < frontCount p b a m
   unfolding frontCount

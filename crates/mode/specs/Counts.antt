@@ -5,7 +5,6 @@ use mathlib.Core.List.{List, [], _∷_, _++_}
 use Prim.Native.Nat.{ℕ, _+_, _*_, _/_}
 use Rattle.bits.specs.Pick.{pick}
 use Rattle.stopping.specs.Parts.{Shape}
-use Rattle.scheme.specs.Machine.{unlessEmpty}
 use Rattle.mode.specs.Params.{Params}
 use Rattle.mode.specs.Paper.{blocks}
 
@@ -21,7 +20,7 @@ verifyRounds p a m = p .sH * (a / p .b + m / p .b + 4) + rekeyRounds p
 
 -- E, encryption
 unfoldable pub encryptRounds : Params → ℕ → ℕ
-encryptRounds p m = unlessEmpty m (rekeyRounds p + p .sE * blocks p m)
+encryptRounds p m = rekeyRounds p + p .sE * blocks p m
 
 -- ---- the shapes of the parts, by the two lengths alone
 
@@ -29,8 +28,7 @@ abbrev pub shape : ℕ → ℕ → Shape
 shape count rounds = record { count = count; rounds = rounds }
 
 unfoldable pub encShapes : Params → (a m : ℕ) → List Shape
-encShapes p a m =
-    shape (unlessEmpty m 1) (p .sK) ∷ shape (unlessEmpty m 127) (p .sB) ∷ shape (unlessEmpty m 1) (p .sK) ∷ shape (unlessEmpty m (blocks p m)) (p .sE) ∷ []
+encShapes p a m = shape 1 (p .sK) ∷ shape 127 (p .sB) ∷ shape 1 (p .sK) ∷ shape (blocks p m) (p .sE) ∷ []
 
 unfoldable pub macShapes : Params → (a m : ℕ) → List Shape
 macShapes p a m =

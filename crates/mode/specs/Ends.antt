@@ -6,7 +6,7 @@ use mathlib.Core.Bool.{Bool, false}
 use mathlib.Core.Logic.{inl, inr}
 use mathlib.Core.List.{List, [], _∷_, _++_, append-assoc, append-nil}
 use Prim.Native.Nat.{ℕ, zero, suc, _+_, _-_, _*_, _/_, _≤_, _<_, min}
-use native.Mathlib.Nat.{suc-mul, zero-mul, div-eq-of-lt}
+use native.Mathlib.Nat.{suc-mul, zero-mul}
 use native.Mathlib.Numerals.{add-one}
 use native.Mathlib.Decide.{decLt}
 use native.Mathlib.Omega.{arith}
@@ -24,7 +24,7 @@ use Rattle.mode.specs.StringLaws.{length-xorBit, length-bitsOf}
 use Rattle.mode.specs.Params.{Params, LawfulParams, perm, iv}
 use Rattle.mode.specs.Paper.{absorbBits, rekeyed, rekeyMac, rekeyEnc, blocks, squeeze, isapEnc, paddedBlocks, absorb, hashed, finished}
 use Rattle.mode.specs.PaperLaws.{perm-long, length-start, bits-long, rekeyed-long, absorb-long, padded-short, hashed-long, key-long, blocks-are}
-use Rattle.scheme.specs.Machine.{Machine, Input, first, unlessEmpty, cipherOf, machine}
+use Rattle.scheme.specs.Machine.{Machine, Input, first, cipherOf, machine}
 use Rattle.mode.specs.Parts.{tagOf, part, keyStart, keyBits, keyEnd, texts, macStart, assocs, ciphers, macKeyStart, macKeyBits, macKeyEnd, macEnd, encParts, macParts}
 use Rattle.mode.specs.Calls.{noncePut, nonce-long, w-keyStart, w-keyBits, w-keyEnd, w-texts, w-macStart, w-assocs, w-ciphers, w-macKeyStart, w-macKeyBits, w-macKeyEnd, w-macEnd}
 
@@ -270,97 +270,57 @@ module _ (p : Params) (l : LawfulParams p) where
         bits-run (callOf (keyBits p x)) t ss o g (bitsOf (x .nonce)) (λ i s h. w-keyBits p l x hk hn i s t ss o g h) 127 0 s
         (omega (arith, length-128 (x .nonce) hn)) h
 
-    blocks-some : (m : ℕ) → blocks p (suc m) ≡ suc (blocks p (suc m) - 1)
-    blocks-some m = elim (decLt 0 (blocks p (suc m))) [
-      | yes h ↦ omega arith
-      | no f ↦ absurd (let z : blocks p (suc m) ≡ 0 = omega arith in omega (arith, blocks-are p l (suc m) .0, ap (λ (k : ℕ). k * p .b) z, zero-mul (p .b)))
-    ]
-
-    r-texts : (m : ℕ) (s t ss o g : List ℕ) → length (x .text) ≡ suc m → length s ≡ p .n → length o ≡ length (x .text)
-        → run (calls (callOf (texts p x)) 0 (blocks p (length (x .text)))) (machine (s ++ t) ss o g)
-        ≡ machine (squeezed p (blocks p (length (x .text))) (noncePut p l x hk hn s) ++ t) ss
-        (squeeze p (noncePut p l x hk hn s) (cut (p .b) (blocks p (length (x .text))) (x .text))) g
-    r-texts m s t ss o g e h k =
-        let n = length (x .text) in
-        let put = noncePut p l x hk hn in
-        let q : blocks p n ≡ suc (blocks p n - 1) = ap (blocks p) e ∙ blocks-some m ∙ ap (λ (j : ℕ). suc (blocks p j - 1)) (sym e) in
-        let b = blocks-are p l n in
-        let f = ap (λ (j : ℕ). j * p .b) q in
-        subst
-        (λ (j : ℕ). run (calls (callOf (texts p x)) 0 j) (machine (s ++ t) ss o g)
-        ≡ machine (squeezed p j (put s) ++ t) ss (squeeze p (put s) (cut (p .b) j (x .text))) g)
-        (sym q)
-        (squeeze-run (callOf (texts p x)) t ss g put (x .text) (λ i s o h. w-texts p l x hk hn i s t ss o g h) (blocks p n - 1) s o h
-        (nonce-long p l x hk hn s h) k (omega arith) (omega arith))
-
-    -- the state with which encryption ends; an empty text leaves it as it is
-    unfoldable pub encState : ℕ → List ℕ → List ℕ
-    encState zero s = s
-    encState (suc m) s = squeezed p (blocks p (suc m)) (rekeyEnc p (x .key) (x .nonce) ++ x .nonce)
-
-    pub encState-long : (m : ℕ) (s : List ℕ) → length s ≡ p .n → length (encState m s) ≡ p .n
-    unfolding encState
-    encState-long zero s h = h
-    encState-long (suc m) s h = squeezed-long (blocks p (suc m)) (rekeyEnc p (x .key) (x .nonce) ++ x .nonce) (key-long p l (x .key) (x .nonce) hk hn)
-
-    -- for a text that is not empty
-    enc-some : (m : ℕ) (s t ss o g : List ℕ) → length (x .text) ≡ suc m → length s ≡ p .n → length o ≡ length (x .text)
-        → run (row (encParts p x)) (machine (s ++ t) ss o g)
-        ≡ machine (squeezed p (blocks p (length (x .text))) (rekeyEnc p (x .key) (x .nonce) ++ x .nonce) ++ t) ss (isapEnc p (x .key) (x .nonce) (x .text)) g
-    unfolding partRow keyStart keyBits keyEnd texts part unlessEmpty isapEnc rekeyEnc rekeyed noncePut
-    enc-some m s t ss o g e h k =
-        let s₀ = perm p (p .sK) (x .key ++ iv p 3) in
-        let h₀ : length s₀ ≡ p .n = perm-long p l (p .sK) (x .key ++ iv p 3) (length-start p l (x .key) 3 hk) in
-        let s₁ = absorbBits p (take 127 (bitsOf (x .nonce))) s₀ in
-        let h₁ : length s₁ ≡ p .n = bits-long p l (take 127 (bitsOf (x .nonce))) s₀ h₀ in
-        let s₂ = rekeyed p 3 (x .key) (x .nonce) in
-        let h₂ : length s₂ ≡ p .n = rekeyed-long p l 3 (x .key) (x .nonce) hk in
-        and-then (keyStart p x) (keyBits p x ∷ keyEnd p x ∷ texts p x ∷ []) _
-        (ap (λ (j : ℕ). run (calls (callOf (keyStart p x)) 0 (unlessEmpty j 1)) (machine (s ++ t) ss o g)) e
-        ∙ one-call (callOf (keyStart p x)) (machine (s ++ t) ss o g) ∙ w-keyStart p l x hk hn 0 s t ss o g h)
-        (and-then (keyBits p x) (keyEnd p x ∷ texts p x ∷ []) _
-        (ap (λ (j : ℕ). run (calls (callOf (keyBits p x)) 0 (unlessEmpty j 127)) (machine (s₀ ++ t) ss o g)) e ∙ r-keyBits s₀ t ss o g h₀)
-        (and-then (keyEnd p x) (texts p x ∷ []) _
-        (ap (λ (j : ℕ). run (calls (callOf (keyEnd p x)) 0 (unlessEmpty j 1)) (machine (s₁ ++ t) ss o g)) e
-        ∙ one-call (callOf (keyEnd p x)) (machine (s₁ ++ t) ss o g) ∙ w-keyEnd p l x hk hn 0 s₁ t ss o g h₁)
-        (and-then (texts p x) [] _
-        (ap (λ (j : ℕ). run (calls (callOf (texts p x)) 0 (unlessEmpty j (blocks p (length (x .text))))) (machine (s₂ ++ t) ss o g)) e
-        ∙ r-texts m s₂ t ss o g e h₂ k)
-        (done _))))
-
-    -- for an empty one there is nothing to do
-    enc-none : (m : Machine) → length (x .text) ≡ 0 → run (row (encParts p x)) m ≡ m
-    unfolding row partRow keyStart keyBits keyEnd texts part run calls unlessEmpty
-    enc-none m e =
-        ap
-        (λ (j : ℕ). run
-        (calls (callOf (keyStart p x)) 0 (unlessEmpty j 1)
-        ++ (calls (callOf (keyBits p x)) 0 (unlessEmpty j 127)
-        ++ (calls (callOf (keyEnd p x)) 0 (unlessEmpty j 1)
-        ++ (calls (callOf (texts p x)) 0 (unlessEmpty j (blocks p (length (x .text)))) ++ [])))) m)
-        e
+    -- the state after so many blocks; the nonce goes with the first of them, so that an empty text ends where re-keying does
+    unfoldable pub textState : ℕ → List ℕ
+    textState zero = rekeyed p 3 (x .key) (x .nonce)
+    textState (suc k) = squeezed p (suc k) (rekeyEnc p (x .key) (x .nonce) ++ x .nonce)
 
     none : (y : List ℕ) → length y ≡ 0 → y ≡ []
     none [] h = refl
     none (a ∷ y) h = absurd (omega arith)
 
-    enc-of-none : length (x .text) ≡ 0 → isapEnc p (x .key) (x .nonce) (x .text) ≡ []
-    unfolding isapEnc squeeze cut blocks
-    enc-of-none e =
-        ap (λ (j : ℕ). squeeze p (rekeyEnc p (x .key) (x .nonce) ++ x .nonce) (cut (p .b) j (x .text)))
-        (ap (blocks p) e ∙ div-eq-of-lt (omega (arith, l .block)))
+    r-texts : (k : ℕ) (t ss o g : List ℕ) → blocks p (length (x .text)) ≡ k → length o ≡ length (x .text)
+        → run (calls (callOf (texts p x)) 0 k) (machine (rekeyed p 3 (x .key) (x .nonce) ++ t) ss o g)
+        ≡ machine (textState k ++ t) ss (squeeze p (rekeyEnc p (x .key) (x .nonce) ++ x .nonce) (cut (p .b) k (x .text))) g
+    unfolding textState rekeyEnc noncePut run calls squeeze cut
+    r-texts zero t ss o g e h =
+        let b = blocks-are p l (length (x .text)) in
+        let z = zero-mul (p .b) in
+        let f = ap (λ (j : ℕ). j * p .b) e in
+        ap (λ (u : List ℕ). machine (rekeyed p 3 (x .key) (x .nonce) ++ t) ss u g) (none o (omega arith))
+    r-texts (suc k) t ss o g e h =
+        let s = rekeyed p 3 (x .key) (x .nonce) in
+        let long : length s ≡ p .n = rekeyed-long p l 3 (x .key) (x .nonce) hk in
+        let b = blocks-are p l (length (x .text)) in
+        let f = ap (λ (j : ℕ). j * p .b) e in
+        squeeze-run (callOf (texts p x)) t ss g (noncePut p l x hk hn) (x .text) (λ i s o h. w-texts p l x hk hn i s t ss o g h) k s o long
+        (nonce-long p l x hk hn s long) h (omega arith) (omega arith)
 
-    enc-by : (m : ℕ) (s t ss o g : List ℕ) → length (x .text) ≡ m → length s ≡ p .n → length o ≡ length (x .text)
-        → run (row (encParts p x)) (machine (s ++ t) ss o g) ≡ machine (encState m s ++ t) ss (isapEnc p (x .key) (x .nonce) (x .text)) g
-    unfolding encState
-    enc-by zero s t ss o g e h k =
-        enc-none (machine (s ++ t) ss o g) e ∙ ap (λ (u : List ℕ). machine (s ++ t) ss u g) (none o (k ∙ e) ∙ sym (enc-of-none e))
-    enc-by (suc m) s t ss o g e h k =
-        enc-some m s t ss o g e h k
-        ∙ ap (λ (j : ℕ). machine (squeezed p (blocks p j) (rekeyEnc p (x .key) (x .nonce) ++ x .nonce) ++ t) ss (isapEnc p (x .key) (x .nonce) (x .text)) g) e
+    -- the state with which encryption ends
+    unfoldable pub encState : List ℕ
+    encState = textState (blocks p (length (x .text)))
+
+    pub encState-long : length encState ≡ p .n
+    unfolding encState textState
+    encState-long = go (blocks p (length (x .text)))
+      where
+        go : (k : ℕ) → length (textState k) ≡ p .n
+        go zero = rekeyed-long p l 3 (x .key) (x .nonce) hk
+        go (suc k) = squeezed-long (suc k) (rekeyEnc p (x .key) (x .nonce) ++ x .nonce) (key-long p l (x .key) (x .nonce) hk hn)
 
     -- at its end: the paper's ciphertext in the output
     pub enc-end : (s t ss o g : List ℕ) → length s ≡ p .n → length o ≡ length (x .text)
-        → run (row (encParts p x)) (machine (s ++ t) ss o g)
-        ≡ machine (encState (length (x .text)) s ++ t) ss (isapEnc p (x .key) (x .nonce) (x .text)) g
-    enc-end s t ss o g h k = enc-by (length (x .text)) s t ss o g refl h k
+        → run (row (encParts p x)) (machine (s ++ t) ss o g) ≡ machine (encState ++ t) ss (isapEnc p (x .key) (x .nonce) (x .text)) g
+    unfolding partRow keyStart keyBits keyEnd texts part encState isapEnc rekeyed
+    enc-end s t ss o g h k =
+        let s₀ = perm p (p .sK) (x .key ++ iv p 3) in
+        let h₀ : length s₀ ≡ p .n = perm-long p l (p .sK) (x .key ++ iv p 3) (length-start p l (x .key) 3 hk) in
+        let s₁ = absorbBits p (take 127 (bitsOf (x .nonce))) s₀ in
+        let h₁ : length s₁ ≡ p .n = bits-long p l (take 127 (bitsOf (x .nonce))) s₀ h₀ in
+        let s₂ = rekeyed p 3 (x .key) (x .nonce) in
+        and-then (keyStart p x) (keyBits p x ∷ keyEnd p x ∷ texts p x ∷ []) _
+        (one-call (callOf (keyStart p x)) (machine (s ++ t) ss o g) ∙ w-keyStart p l x hk hn 0 s t ss o g h)
+        (and-then (keyBits p x) (keyEnd p x ∷ texts p x ∷ []) _ (r-keyBits s₀ t ss o g h₀)
+        (and-then (keyEnd p x) (texts p x ∷ []) _
+        (one-call (callOf (keyEnd p x)) (machine (s₁ ++ t) ss o g) ∙ w-keyEnd p l x hk hn 0 s₁ t ss o g h₁)
+        (and-then (texts p x) [] _ (r-texts (blocks p (length (x .text))) t ss o g refl k) (done _))))

@@ -4,8 +4,7 @@
 use mathlib.Core.Path.{_≡_, sym, ap, _∙_, subst}
 use mathlib.Core.Bool.{Bool, true, false}
 use mathlib.Core.List.{List, [], _∷_, _++_}
-use Prim.Native.Nat.{ℕ, zero, suc, _+_, _-_, _*_, _/_, _≤_, min}
-use native.Mathlib.Nat.{div-eq-of-lt}
+use Prim.Native.Nat.{ℕ, _+_, _-_, _*_, _/_, _≤_, min}
 use native.Mathlib.Omega.{arith}
 use lib.ListN.{length, take, drop}
 use Rattle.bits.specs.Pick.{pick}
@@ -18,7 +17,7 @@ use Rattle.stopping.specs.Since.{stopped-over, halted-going}
 use Rattle.scheme.specs.Blocks.{callsDone, out-after}
 use Rattle.mode.specs.Params.{Params, LawfulParams}
 use Rattle.mode.specs.Paper.{blocks, isapEnc, seal}
-use Rattle.scheme.specs.Machine.{Machine, Input, unlessEmpty}
+use Rattle.scheme.specs.Machine.{Machine, Input}
 use Rattle.mode.specs.Parts.{part, keyStart, keyBits, keyEnd, texts, macParts, sealingCourse, openingCourse, course}
 use Rattle.mode.specs.CountLaws.{rounds-mac, shapes-mac, front-some, lawful}
 use Rattle.mode.specs.Counts.{rekeyRounds, verifyRounds, encryptRounds, frontShapes}
@@ -30,18 +29,13 @@ module _ (p : Params) (l : LawfulParams p) (x : Input) where
   -- the calls of `texts` that are done in a row in which the parts cs and re-keying come first
   calls-done : (cs : List (Part Machine)) (n : ℕ)
       → callsDone (cs ++ rekeying p x) (texts p x) n ≡ blocksWritten p (length (x .text)) (n - roundsIn (shapes cs))
-  unfolding callsDone blocksWritten rekeyRounds blocks shapes roundsIn keyStart keyBits keyEnd texts part unlessEmpty
+  unfolding callsDone blocksWritten rekeyRounds shapes roundsIn keyStart keyBits keyEnd texts part
   calls-done cs n =
-      ap (λ (k : ℕ). min (unlessEmpty (length (x .text)) (blocks p (length (x .text)))) ((n - k) / p .sE))
-      (ap roundsIn (shapes-append cs (rekeying p x)) ∙ roundsIn-append (shapes cs) (shapes (rekeying p x)))
-      ∙ go (length (x .text)) (roundsIn (shapes cs))
-    where
-      go : (m d : ℕ)
-          → min (unlessEmpty m (blocks p m))
-          ((n - (d + (unlessEmpty m 1 * p .sK + (unlessEmpty m 127 * p .sB + (unlessEmpty m 1 * p .sK + 0))))) / p .sE)
-          ≡ min (blocks p m) ((n - d - (2 * p .sK + 127 * p .sB)) / p .sE)
-      go zero d = omega (arith, div-eq-of-lt {n = 0 + (p .b - 1)} {m = p .b} (omega (arith, l .block)))
-      go (suc m) d = ap (λ (k : ℕ). min (blocks p (suc m)) (k / p .sE)) (omega arith)
+      let d = roundsIn (shapes cs) in
+      let before = ap roundsIn (shapes-append cs (rekeying p x)) ∙ roundsIn-append (shapes cs) (shapes (rekeying p x)) in
+      let since : n - (d + (1 * p .sK + (127 * p .sB + (1 * p .sK + 0)))) ≡ n - d - (2 * p .sK + 127 * p .sB) = omega arith in
+      ap (λ (k : ℕ). min (blocks p (length (x .text))) ((n - k) / p .sE)) before
+      ∙ ap (λ (k : ℕ). min (blocks p (length (x .text))) (k / p .sE)) since
 
   -- the output of such a row
   row-out : (cs ds : List (Part Machine)) → ((o : List ℕ) → KeepsParts (λ (m : Machine). m .out ≡ o) cs)

@@ -11,7 +11,7 @@ use Rattle.bits.specs.Xors.{xors}
 use Rattle.stopping.specs.Parts.{Part}
 use Rattle.stopping.specs.Course.{Course}
 use Rattle.bits.specs.Put.{put, putAt}
-use Rattle.scheme.specs.Machine.{Machine, Input, cipherOf, onState, first, nothing, unlessEmpty}
+use Rattle.scheme.specs.Machine.{Machine, Input, cipherOf, onState, first, nothing}
 use Rattle.bits.specs.Strings.{xorInto, xorAt, block, same}
 use Rattle.mode.specs.Strings.{padded, bitAt, xorBit}
 use Rattle.mode.specs.Params.{Params, iv}
@@ -35,13 +35,13 @@ module _ (p : Params) (x : Input) where
   -- ---- encryption: re-keying with the nonce, then the text's blocks
 
   unfoldable pub keyStart : Part Machine
-  keyStart = part (unlessEmpty (length (x .text)) 1) (p .sK) (λ i. onState (put (x .key ++ iv p 3))) nothing
+  keyStart = part 1 (p .sK) (λ i. onState (put (x .key ++ iv p 3))) nothing
 
   unfoldable pub keyBits : Part Machine
-  keyBits = part (unlessEmpty (length (x .text)) 127) (p .sB) (λ i. onState (xorBit (bitAt (x .nonce) i))) nothing
+  keyBits = part 127 (p .sB) (λ i. onState (xorBit (bitAt (x .nonce) i))) nothing
 
   unfoldable pub keyEnd : Part Machine
-  keyEnd = part (unlessEmpty (length (x .text)) 1) (p .sK) (λ i. onState (xorBit (bitAt (x .nonce) 127))) nothing
+  keyEnd = part 1 (p .sK) (λ i. onState (xorBit (bitAt (x .nonce) 127))) nothing
 
   -- with the last round of call i, block i of the text is xored into its place of the output
   unfoldable pub written : ℕ → Machine → Machine
@@ -54,8 +54,7 @@ module _ (p : Params) (x : Input) where
       }
 
   unfoldable pub texts : Part Machine
-  texts =
-      part (unlessEmpty (length (x .text)) (blocks p (length (x .text)))) (p .sE) (λ i. onState (first i (putAt (p .n - 16) (x .nonce)))) written
+  texts = part (blocks p (length (x .text))) (p .sE) (λ i. onState (first i (putAt (p .n - 16) (x .nonce)))) written
 
   -- ---- MAC: the nonce, associated data, ciphertext, re-keying with the first 16 bytes, and the tag
 

@@ -95,7 +95,7 @@ module _ (p : Params) (l : LawfulParams p) (x : Input) where
         ∙ run-append (row (encParts p x)) (row (hashing p x)) m
         ∙ ap (λ (k : Machine). run (row (hashing p x)) (run (row (encParts p x)) k)) (sym split)
         ∙ ap (run (row (hashing p x))) (enc-end p l x hk hn s r (m .session) (m .out) (m .tag) long (ready .out))
-        ∙ hashing-end p l x hk hn (encState p l x hk hn t s) r (m .session) cipher (m .tag) (encState-long p l x hk hn t s long) own
+        ∙ hashing-end p l x hk hn (encState p l x hk hn) r (m .session) cipher (m .tag) (encState-long p l x hk hn) own
 
     opening-reached : x .sealing ≡ false
         → run (row (hashing p x)) m ≡ machine (macState p x ++ drop (p .n) (m .state)) (m .session) (m .out) (m .tag)

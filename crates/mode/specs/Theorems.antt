@@ -90,8 +90,8 @@ module _ (p : Params) (l : LawfulParams p) (x : Input) (hk : length (x .key) ≡
           ∙ run-append (row (encParts p x)) (row (macParts p x)) m
           ∙ ap (λ (k : Machine). run (row (macParts p x)) (run (row (encParts p x)) k)) (sym split)
           ∙ ap (run (row (macParts p x))) (enc-end p l x hk hn s t (u ++ v) (m .out) (m .tag) long-s (ready .out))
-          ∙ mac-end p l x hk hn (encState p l x hk hn (length (x .text)) s) t u v cipher (m .tag)
-          (encState-long p l x hk hn (length (x .text)) s long-s) long-u (ap length own ∙ enc-length p l (x .key) (x .nonce) hk hn (x .text))
+          ∙ mac-end p l x hk hn (encState p l x hk hn) t u v cipher (m .tag) (encState-long p l x hk hn) long-u
+          (ap length own ∙ enc-length p l (x .key) (x .nonce) hk hn (x .text))
           ∙ ap₂ (λ (c : List ℕ) (b : Bool). machine (last c ++ t) (replicate (p .n) 0 ++ v) cipher (pick b (take 16 (last c ++ t)) (m .tag))) own d
 
       -- a sealing is always accepted, so it takes E + V rounds

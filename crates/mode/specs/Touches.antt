@@ -4,7 +4,7 @@
 -- Assumes nothing.
 use mathlib.Core.Path.{_≡_, refl, sym, ap, ap₂, _∙_}
 use mathlib.Core.List.{List, [], _∷_, _++_, append-assoc}
-use Prim.Native.Nat.{ℕ, zero, suc, _+_, _-_, _*_, _≤_, _<_}
+use Prim.Native.Nat.{ℕ, suc, _+_, _-_, _*_, _≤_, _<_}
 use native.Mathlib.Nat.{suc-mul, mul-le-mul-right}
 use native.Mathlib.Omega.{arith}
 use lib.ListN.{length, take, drop, length-append}
@@ -20,7 +20,7 @@ use Rattle.bits.specs.StringLaws.{length-block}
 use Rattle.mode.specs.Params.{Params, LawfulParams}
 use Rattle.mode.specs.Paper.{blocks}
 use Rattle.mode.specs.PaperLaws.{blocks-are}
-use Rattle.scheme.specs.Machine.{Machine, Input, unlessEmpty, nothing}
+use Rattle.scheme.specs.Machine.{Machine, Input, nothing}
 use Rattle.mode.specs.Parts.{part, keyStart, keyBits, keyEnd, written, texts, macStart, assocs, ciphers, setAside, macKeyStart, macKeyBits, macKeyEnd, takeBack, tagged, macEnd, encParts, macParts}
 
 -- ---- the parts that touch the state alone
@@ -110,21 +110,15 @@ drop-putAt-behind n k xs s h b =
     ∙ ap (λ (i : ℕ). drop i s) same
 
 module _ (p : Params) (l : LawfulParams p) (x : Input) where
-  -- a call of `texts` has a block
-  some-blocks : (m k i : ℕ) → i < unlessEmpty m k → i < k
-  unfolding unlessEmpty
-  some-blocks zero k i h = omega arith
-  some-blocks (suc m) k i h = h
-
-  -- what is written of it lies inside the output and is no longer than a block
-  module _ (i : ℕ) (s : List ℕ) (h : i < unlessEmpty (length (x .text)) (blocks p (length (x .text)))) where
+  -- what a call of `texts` writes lies inside the output and is no longer than a block
+  module _ (i : ℕ) (s : List ℕ) (h : i < blocks p (length (x .text))) where
     abbrev y : List ℕ
     y = xors s (block (p .b) i (x .text))
 
     inside : (i * p .b + length y ≤ length (x .text)) × (length y ≤ p .b)
     inside =
         let most = blocks-are p l (length (x .text)) in
-        let b = mul-le-mul-right (p .b) (some-blocks (length (x .text)) (blocks p (length (x .text))) i h) in
+        let b = mul-le-mul-right (p .b) h in
         let k = suc-mul i (p .b) in
         let size = length-xors s (block (p .b) i (x .text)) in
         let len = length-block (p .b) i (x .text) in

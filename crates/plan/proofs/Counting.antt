@@ -1,25 +1,14 @@
 -- What the counting functions compute, from an instance's numbers, is what the formulas say, and no product is too large.
 -- Assumes nothing.
-use mathlib.Core.Path.{_≡_, refl, sym, ap, _∙_}
-use Prim.Native.Nat.{ℕ, zero, suc, _+_, _-_, _*_, _/_, _≤_}
+use mathlib.Core.Path.{_≡_}
+use Prim.Native.Nat.{ℕ, _+_, _-_, _*_, _/_, _≤_}
 use native.Mathlib.Nat.{mul-le-mul, mul-le-mul-left, div-mul-le-self}
 use native.Mathlib.Omega.{arith}
 use Rattle.mode.specs.Paper.{blocks}
-use Rattle.scheme.specs.Machine.{unlessEmpty}
 use Rattle.mode.specs.Instances.{paramsOf}
 use Rattle.mode.specs.Counts.{rekeyRounds, verifyRounds, encryptRounds}
 use Rattle.plan.specs.declared.numbers.Numbers.{Numbers}
 use Rattle.plan.specs.Numbers.{OfInstance}
-
-pub unless-not : (m : ℕ) → (m ≡ 0 → ⊥) → (n : ℕ) → n ≡ unlessEmpty m n
-unfolding unlessEmpty
-unless-not zero f n = absurd (f refl)
-unless-not (suc m) f n = refl
-
--- an empty text takes no rounds of encryption
-pub encrypt-none : (i m : ℕ) → m ≡ 0 → 0 ≡ encryptRounds (paramsOf i) m
-unfolding encryptRounds unlessEmpty
-encrypt-none i m e = sym (ap (encryptRounds (paramsOf i)) e)
 
 -- a product of a round count and a number
 pub rounds-times : (r k n : ℕ) → r ≤ 20 → k ≤ n → r * k ≤ 20 * n
@@ -38,9 +27,9 @@ module _ (i : ℕ) (q : Numbers) (of : OfInstance i q) where
   unfolding blocks
   blocks-is m = λ j. (m + (of .b j - 1)) / of .b j
 
-  pub encrypt-is : (m r k : ℕ) → (m ≡ 0 → ⊥) → r ≡ rekeyRounds (paramsOf i) → k ≡ blocks (paramsOf i) m → r + q .se * k ≡ encryptRounds (paramsOf i) m
+  pub encrypt-is : (m r k : ℕ) → r ≡ rekeyRounds (paramsOf i) → k ≡ blocks (paramsOf i) m → r + q .se * k ≡ encryptRounds (paramsOf i) m
   unfolding encryptRounds
-  encrypt-is m r k f e d = (λ j. e j + of .se j * d j) ∙ unless-not m f (rekeyRounds (paramsOf i) + paramsOf i .sE * blocks (paramsOf i) m)
+  encrypt-is m r k e d = λ j. e j + of .se j * d j
 
 -- the padded blocks of a string within a limit
 pub blocks-within : (x b n : ℕ) → x ≤ n → 8 ≤ b → x / b + 1 ≤ n / 8 + 1

@@ -3,17 +3,15 @@
 use mathlib.Core.Path.{_≡_, refl, sym, ap, _∙_, subst}
 use mathlib.Core.Bool.{Bool, true, false}
 use mathlib.Core.List.{[], _∷_, _++_}
-use Prim.Native.Nat.{ℕ, zero, suc, _+_, _/_, _%_, _≤_, _<_}
-use native.Mathlib.Nat.{not-suc-le-zero}
+use Prim.Native.Nat.{ℕ, _+_, _/_, _%_, _≤_, _<_}
 use native.Mathlib.Omega.{arith}
-use lib.Dec.{eqb, ltb, leb}
+use lib.Dec.{eqb, leb}
 use borrow.Author.Tests.{leb-true}
 use lib.ListN.{length}
 use Rattle.bits.specs.Pick.{pick}
 use Rattle.bits.specs.Every.{upto-at, passes, passes-at}
 use Rattle.stopping.specs.Parts.{Shape}
 use Rattle.stopping.specs.Places.{shapeAt}
-use Rattle.scheme.specs.Machine.{unlessEmpty}
 use Rattle.scheme.specs.Scheme as schemes
 use Rattle.scheme.specs.Scheme.{partsOf}
 use Rattle.mode.specs.Params.{Params}
@@ -30,20 +28,15 @@ kindOf sealing part = pick sealing part ((part + 4) % 11)
 unfoldable pub shapeOf : Params → (a m kind : ℕ) → Shape
 shapeOf p a m kind = shapeAt (encShapes p a m ++ macShapes p a m) kind
 
--- the calls of each kind, as the code finds them (`Kinds` shows them to be the shapes'; a reader may skip these)
-unfoldable pub encryptionCalls : Params → (m kind : ℕ) → ℕ
-encryptionCalls p m kind = unlessEmpty m (pick (eqb kind 1) 127 (pick (eqb kind 3) (blocks p m) 1))
-
-unfoldable pub macCalls : Params → (a m kind : ℕ) → ℕ
-macCalls p a m kind = pick (eqb kind 5) (a / p .b + 1) (pick (eqb kind 6) (m / p .b + 1) (pick (eqb kind 8) 127 1))
-
 module _ (p : Params) (a m : ℕ) where
   -- the calls of each kind
   abbrev Called : ℕ → Type 0
-  Called k = shapeOf p a m k .count ≡ pick (ltb k 4) (encryptionCalls p m k) (macCalls p a m k)
+  Called k =
+      shapeOf p a m k .count
+      ≡ pick (eqb k 1) 127 (pick (eqb k 8) 127 (pick (eqb k 3) (blocks p m) (pick (eqb k 5) (a / p .b + 1) (pick (eqb k 6) (m / p .b + 1) 1))))
 
   pub calls-of : (k : ℕ) → k < 11 → Called k
-  unfolding shapeOf shapeAt encShapes macShapes encryptionCalls macCalls
+  unfolding shapeOf shapeAt encShapes macShapes
   calls-of k h = upto-at Called 11 (((((((((((tt, refl), refl), refl), refl), refl), refl), refl), refl), refl), refl), refl) k h
 
   -- the rounds of each kind
@@ -106,9 +99,3 @@ rounds-most i a m k h =
     subst (λ (n : ℕ). n ≤ p .most) (sym (rounds-of p a m k h))
     (pick-most (eqb k 1) _ _ _ sb (pick-most (eqb k 8) _ _ _ sb (pick-most (eqb k 3) _ _ _ se
     (pick-most (eqb k 0) _ _ _ sk (pick-most (eqb k 2) _ _ _ sk (pick-most (eqb k 7) _ _ _ sk (pick-most (eqb k 9) _ _ _ sk sh)))))))
-
--- a call of a text block has its block
-pub text-calls : (p : Params) (a m call : ℕ) → call < shapeOf p a m 3 .count → call < blocks p m
-unfolding shapeOf shapeAt encShapes macShapes unlessEmpty
-text-calls p a zero call h = absurd (not-suc-le-zero h)
-text-calls p a (suc m) call h = h

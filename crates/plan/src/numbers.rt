@@ -78,9 +78,6 @@ pub fn encrypt_rounds(instance: u32, m: u32) -> u32
     requires { ⌜ m ≤ mostText ⌝ }
     ensures { λ r. ⌜ r ≡ encryptRounds (paramsOf instance) m ⌝ }
 {
-    if m == 0 {
-        return 0;
-    }
     let q = numbers_of(instance);
     rekey_rounds(instance) + q.se * blocks_of(instance, m)
 }

@@ -1,4 +1,5 @@
 pub mod Jobs
 pub mod FromBeginnings
 pub mod Endings
+pub mod PastV
 pub mod BetweenRounds

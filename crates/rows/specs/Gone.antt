@@ -7,7 +7,7 @@ use mathlib.Core.List.{List}
 use Prim.Native.Nat.{ℕ, zero, suc, _+_, _-_, _*_, _≤_, _<_}
 use native.Mathlib.Nat.{mul-le-mul-right, suc-mul}
 use native.Mathlib.Omega.{arith}
-use lib.Dec.{eqb, lit≤}
+use lib.Dec.{eqb}
 use borrow.Author.Tests.{eqb-true, ne-eqb}
 use lib.ListN.{length, take}
 use Rattle.bits.specs.Pick.{pick}
@@ -26,8 +26,7 @@ use Rattle.mode.specs.Calls.{turns-run}
 use Rattle.mode.specs.InstanceLaws.{lawful-instance}
 use Rattle.mode.specs.Instances.{paramsOf}
 use Rattle.mode.specs.Counts.{encShapes, macShapes}
-use Rattle.instances.specs.Limits.{unless-most}
-use Rattle.plan.specs.Kinds.{text-calls, shapeOf}
+use Rattle.plan.specs.Kinds.{shapeOf}
 use Rattle.sponge.specs.Kinds.{partOf}
 use Rattle.sponge.specs.Leaves.{turn-of}
 use Rattle.sponge.specs.Offsets.{pad-offset, text-offset}
@@ -160,7 +159,7 @@ module _ {instance kind call calls : ℕ} {assoc text out : List ℕ} (can : Can
 
   pub nonce-room : kind ≡ 1 → call + calls ≤ 128
   unfolding shapeOf shapeAt encShapes macShapes
-  nonce-room e = omega (arith, below 1 e, unless-most (length text) 127 127 (lit≤ tt))
+  nonce-room e = omega (arith, below 1 e)
 
   pub session-room : kind ≡ 8 → call + calls ≤ 128
   unfolding shapeOf shapeAt encShapes macShapes
@@ -175,9 +174,8 @@ module _ {instance kind call calls : ℕ} {assoc text out : List ℕ} (can : Can
   cipher-room e = pad-offset (call + calls) (length text) (paramsOf instance .b) (below 6 e)
 
   pub text-room : kind ≡ 3 → (call + calls) * paramsOf instance .b ≤ length text
-  text-room e =
-      text-offset (paramsOf instance) (call + calls) (length text) (lawful-instance instance .block)
-      (text-calls (paramsOf instance) (length assoc) (length text) (call + calls) (below 3 e))
+  unfolding shapeOf shapeAt encShapes macShapes
+  text-room e = text-offset (paramsOf instance) (call + calls) (length text) (lawful-instance instance .block) (below 3 e)
 
   -- the kind that is left
   pub text-else : (kind ≡ 1 → ⊥) → (kind ≡ 8 → ⊥) → (kind ≡ 5 → ⊥) → (kind ≡ 6 → ⊥) → kind ≡ 3

@@ -48,11 +48,6 @@ first (suc i) f s = s
 abbrev pub nothing : ℕ → Machine → Machine
 nothing i m = m
 
--- so many calls, none if the text is empty
-unfoldable pub unlessEmpty : ℕ → ℕ → ℕ
-unlessEmpty zero k = 0
-unlessEmpty (suc m) k = k
-
 -- ---- what an algorithm gives
 
 pub record Sealed : Type 0 where

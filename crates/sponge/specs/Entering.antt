@@ -5,7 +5,7 @@ use mathlib.Core.Path.{_≡_, refl, sym, ap₂, _∙_, subst}
 use mathlib.Core.List.{List, _++_}
 use Prim.Native.Nat.{ℕ, _+_, _-_, _/_, _≤_, _<_}
 use native.Mathlib.Omega.{arith}
-use lib.Dec.{eqb, ltb, lit≤}
+use lib.Dec.{eqb, ltb}
 use lib.ListN.{length, take, drop, replicate}
 use borrow.Author.Tests.{lt-ltb, le-ltb, ne-eqb}
 use Rattle.bits.specs.Pick.{pick}
@@ -18,7 +18,6 @@ use Rattle.mode.specs.Params.{Params, iv}
 use Rattle.scheme.specs.Machine.{Input, first, cipherOf, machine}
 use Rattle.mode.specs.Parts.{part, keyStart, keyBits, keyEnd, texts, macStart, assocs, ciphers, setAside, macKeyStart, macKeyBits, macKeyEnd, takeBack, macEnd}
 use Rattle.mode.specs.Instances.{paramsOf}
-use Rattle.instances.specs.Limits.{unless-most}
 use Rattle.sponge.specs.Kinds.{partOf, CanEnter, Entered}
 
 -- encryption's parts, 0 to 3
@@ -88,7 +87,7 @@ module _ {instance kind call : ℕ} {x : Input} {out : List ℕ} (can : CanEnter
 
   pub nonce-bits : kind ≡ 1 → call < 128
   unfolding partOf partAt part keyBits
-  nonce-bits e = omega (arith, call-at 1 e, unless-most (length (x .text)) 127 127 (lit≤ tt))
+  nonce-bits e = omega (arith, call-at 1 e)
 
   pub session-bits : kind ≡ 8 → call < 128
   unfolding partOf partAt part macKeyBits

@@ -89,12 +89,9 @@ impl Notebook<'_> {
         s
     }
 
-    /// Algorithm 3, of a text that is not empty.
+    /// Algorithm 3: it makes the session key before it looks at the blocks, of which an empty text has none.
     fn encrypt(&mut self, first_part: u32) {
         let (i, given) = (self.instance, self.given);
-        if given.text.is_empty() {
-            return;
-        }
         let mut s = self.rekey(first_part, 3, &given.nonce);
         s[i.bytes - 16..].copy_from_slice(&given.nonce);
         for (block, bytes) in given.text.chunks(i.block).enumerate() {
@@ -149,8 +146,7 @@ impl Notebook<'_> {
 
     /// Whatever was to come after the end is noted as it stands there.
     fn end(&mut self, ending: u32) {
-        let refused_before_text = ending == WRONG_TAG && !self.given.text.is_empty();
-        self.now.record.place = if refused_before_text { [7, 0, 0] } else { END };
+        self.now.record.place = if ending == WRONG_TAG { [7, 0, 0] } else { END };
         self.now.record.ending = ending;
         self.noted.resize(self.noted.len() + self.stops.len(), self.now.clone());
     }

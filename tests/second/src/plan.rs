@@ -34,7 +34,7 @@ pub fn verification(i: &Instance, assoc: usize, text: usize) -> usize {
 
 pub fn encryption(i: &Instance, text: usize) -> usize {
     let mut left = text;
-    let mut rounds = if left > 0 { rekeying(i) } else { 0 };
+    let mut rounds = rekeying(i);
     while left > 0 {
         rounds += i.s_e;
         left -= left.min(i.block);

@@ -35,16 +35,13 @@ fn order(direction: u32) -> [Part; 11] {
 
 /// How many calls a part has, and of how many rounds each.
 fn shape(i: &Instance, part: Part, assoc: usize, text: usize) -> (usize, usize) {
-    let unless_empty = |calls: usize| if text == 0 { 0 } else { calls };
     match part {
-        KeyStart | KeyEnd => (unless_empty(1), i.s_k),
-        KeyBits => (unless_empty(127), i.s_b),
+        KeyStart | KeyEnd | MacKeyStart | MacKeyEnd => (1, i.s_k),
+        KeyBits | MacKeyBits => (127, i.s_b),
         Text => ((text + i.block - 1) / i.block, i.s_e),
         MacStart | Tag => (1, i.s_h),
         Assoc => (assoc / i.block + 1, i.s_h),
         Cipher => (text / i.block + 1, i.s_h),
-        MacKeyStart | MacKeyEnd => (1, i.s_k),
-        MacKeyBits => (127, i.s_b),
     }
 }
 

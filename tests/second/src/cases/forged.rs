@@ -120,7 +120,7 @@ fn write_standing(file: &mut Written, numbers: &mut Numbers, number: u32, direct
 /// What is done to an unended record so that it cannot stand.
 type Damage = fn(&mut Record);
 
-const DAMAGES: [Damage; 34] = [
+const DAMAGES: [Damage; 35] = [
     // These four may leave a record that stands; then it is one more of those.
     |r| r.instance = r.instance % 4 + 1,
     |r| r.direction = SEALING + OPENING - r.direction,
@@ -169,13 +169,18 @@ const DAMAGES: [Damage; 34] = [
         move_to(r, rounds_of(r).0 - 1);
         r.ending = WRONG_TAG;
     },
-    // refused past the decision, which an opening of a text has; a sealing is never refused
+    // refused past the decision; a sealing is never refused
     |r| {
-        r.text = 20;
         let (v, _) = rounds_of(r);
         let past = (r.direction == OPENING) as usize;
         move_to(r, v + past);
         r.ending = WRONG_TAG;
+    },
+    // of an empty text, ended well after V rounds: an opening has its re-keying still to do, a sealing the rest of its MAC
+    |r| {
+        r.text = 0;
+        move_to(r, rounds_of(r).0);
+        r.ending = WELL;
     },
 ];
 

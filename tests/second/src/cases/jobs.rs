@@ -170,6 +170,7 @@ pub fn of_instance(number: u32) -> Written {
     for kind in [Kind::Sealing, Kind::Opening, Kind::WrongTag] {
         write_edges(&mut file, &mut numbers, kind, number, 2 * b, b + 3);
         write_edges(&mut file, &mut numbers, kind, number, b - 1, 0);
+        write_edges(&mut file, &mut numbers, kind, number, 0, 0);
         write_random(&mut file, &mut numbers, kind, number, 256, 4096);
         for _ in 0..RANDOM_JOBS {
             let (assoc, text) = (up_to(&mut numbers, 5 * b), up_to(&mut numbers, 5 * b));
