@@ -5,7 +5,7 @@ use mathlib.Core.Bool.{Bool, true, false}
 use mathlib.Core.List.{[], _∷_, _++_}
 use Prim.Native.Nat.{ℕ, _+_, _/_, _%_, _≤_, _<_}
 use native.Mathlib.Omega.{arith}
-use lib.Dec.{eqb, leb}
+use lib.Dec.{eqb, ltb, leb}
 use borrow.Author.Tests.{leb-true}
 use lib.ListN.{length}
 use Rattle.bits.specs.Pick.{pick}
@@ -28,15 +28,20 @@ kindOf sealing part = pick sealing part ((part + 4) % 11)
 unfoldable pub shapeOf : Params → (a m kind : ℕ) → Shape
 shapeOf p a m kind = shapeAt (encShapes p a m ++ macShapes p a m) kind
 
+-- the calls of each kind, as the code finds them (`Kinds` shows them to be the shapes'; a reader may skip these)
+unfoldable pub encryptionCalls : Params → (m kind : ℕ) → ℕ
+encryptionCalls p m kind = pick (eqb kind 1) 127 (pick (eqb kind 3) (blocks p m) 1)
+
+unfoldable pub macCalls : Params → (a m kind : ℕ) → ℕ
+macCalls p a m kind = pick (eqb kind 5) (a / p .b + 1) (pick (eqb kind 6) (m / p .b + 1) (pick (eqb kind 8) 127 1))
+
 module _ (p : Params) (a m : ℕ) where
   -- the calls of each kind
   abbrev Called : ℕ → Type 0
-  Called k =
-      shapeOf p a m k .count
-      ≡ pick (eqb k 1) 127 (pick (eqb k 8) 127 (pick (eqb k 3) (blocks p m) (pick (eqb k 5) (a / p .b + 1) (pick (eqb k 6) (m / p .b + 1) 1))))
+  Called k = shapeOf p a m k .count ≡ pick (ltb k 4) (encryptionCalls p m k) (macCalls p a m k)
 
   pub calls-of : (k : ℕ) → k < 11 → Called k
-  unfolding shapeOf shapeAt encShapes macShapes
+  unfolding shapeOf shapeAt encShapes macShapes encryptionCalls macCalls
   calls-of k h = upto-at Called 11 (((((((((((tt, refl), refl), refl), refl), refl), refl), refl), refl), refl), refl), refl) k h
 
   -- the rounds of each kind

@@ -1,9 +1,9 @@
 // ISAP's parts by their kinds: 0 to 3 are encryption's, 4 to 10 the MAC's.
 ghost use mathlib.Core.Path.{_≡_};
-ghost use Prim.Native.Nat.{ℕ, _≤_, _<_};
+ghost use Prim.Native.Nat.{ℕ, _/_, _≤_, _<_};
 ghost use Rattle.mode.specs.Instances.{paramsOf};
 ghost use Rattle.instances.specs.Limits.{mostAssoc, mostText, mostCalls};
-ghost use Rattle.plan.specs.Kinds.{kindOf, shapeOf};
+ghost use Rattle.plan.specs.Kinds.{kindOf, shapeOf, encryptionCalls, macCalls};
 use crate::numbers::blocks_of;
 use crate::numbers::numbers_of;
 
@@ -15,20 +15,23 @@ pub fn kind_of(sealing: bool, part: u32) -> u32
     if sealing { part } else { (part + 4) % 11 }
 }
 
-// How many calls a part has.
-pub fn count_of(instance: u32, a: u32, m: u32, kind: u32) -> u32
-    requires { ⌜ (a ≤ mostAssoc) × (m ≤ mostText) × (kind < 11) ⌝ }
-    ensures { λ r. ⌜ (r ≡ shapeOf (paramsOf instance) a m kind .count) × (r ≤ mostCalls) ⌝ }
+fn encryption_calls(instance: u32, m: u32, kind: u32) -> u32
+    requires { ⌜ m ≤ mostText ⌝ }
+    ensures { λ r. ⌜ (r ≡ encryptionCalls (paramsOf instance) m kind) × (r ≤ mostText / 8) ⌝ }
 {
     if kind == 1 {
-        return 127;
-    }
-    if kind == 8 {
         return 127;
     }
     if kind == 3 {
         return blocks_of(instance, m);
     }
+    1
+}
+
+fn mac_calls(instance: u32, a: u32, m: u32, kind: u32) -> u32
+    requires { ⌜ (a ≤ mostAssoc) × (m ≤ mostText) ⌝ }
+    ensures { λ r. ⌜ (r ≡ macCalls (paramsOf instance) a m kind) × (r ≤ mostCalls) ⌝ }
+{
     let q = numbers_of(instance);
     if kind == 5 {
         return a / q.b + 1;
@@ -36,7 +39,22 @@ pub fn count_of(instance: u32, a: u32, m: u32, kind: u32) -> u32
     if kind == 6 {
         return m / q.b + 1;
     }
+    if kind == 8 {
+        return 127;
+    }
     1
+}
+
+// How many calls a part has.
+pub fn count_of(instance: u32, a: u32, m: u32, kind: u32) -> u32
+    requires { ⌜ (a ≤ mostAssoc) × (m ≤ mostText) × (kind < 11) ⌝ }
+    ensures { λ r. ⌜ (r ≡ shapeOf (paramsOf instance) a m kind .count) × (r ≤ mostCalls) ⌝ }
+{
+    if kind < 4 {
+        encryption_calls(instance, m, kind)
+    } else {
+        mac_calls(instance, a, m, kind)
+    }
 }
 
 // How many rounds each of its calls has.

@@ -1,12 +1,11 @@
 -- Past V an opening of ISAP with the paper's tag always goes on: Algorithm 3 re-keys before it looks at the blocks, so that an empty text has
 -- the re-keying still to do and ends well at V + R. Document 01's ending well at exactly V is left to algorithms with nothing after it.
 -- Assumes nothing.
-use mathlib.Core.Path.{_≡_, sym, ap, _∙_, subst}
+use mathlib.Core.Path.{_≡_, ap, _∙_, subst}
 use mathlib.Core.Bool.{true}
 use mathlib.Core.List.{List}
 use Prim.Native.Nat.{ℕ, _+_}
 use native.Mathlib.Omega.{arith}
-use lib.Dec.{eqb}
 use lib.ListN.{length}
 use borrow.Author.Tests.{eqb-true, eq-eqb, ne-eqb, lt-ltb}
 use Rattle.bits.specs.Pick.{pick}
