@@ -19,8 +19,8 @@
  *   8  the tag is not the right one (open)   every lent byte is as it was: no text is written before the tag was compared
  *
  * Rounds are 0 with 1 to 7, the verification's with 8, all that the job took with 0. The largest figure is 15,816. An empty text costs the
- * encryption's re-keying too: with no associated data the figure is 350, 3,144, 350 and 3,176 in instances 1 to 4. Document 01's other
- * numbers (9, 10, 11, 100) belong to jobs in slices, which a host in C does not call; 12 to 14 belong to parcels (parcel.h).
+ * encryption's re-keying too: with no associated data a job that ends well takes 350, 3,144, 350 and 3,176 in instances 1 to 4. Document
+ * 01's other numbers (9, 10, 11, 100) belong to jobs in slices, which a host in C does not call; 12 to 14 belong to parcels (parcel.h).
  *
  * Pointers. A buffer is lent as a pointer and a length in bytes, for the time of the call, at any alignment. No pointer may be null, also
  * where the length is 0: lend the address of any byte then. Behind each pointer there must be as many bytes as the length says, also

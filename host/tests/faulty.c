@@ -19,10 +19,12 @@ void flip(const uint8_t *at)
     *(uint8_t *)(uintptr_t)at ^= 0x20;
 }
 
-/* The faults of an answer in either direction. */
-static uint64_t spoiled(uint64_t answer)
+/* The faults of an answer in either direction, to a call with these lengths. */
+static uint64_t spoiled(uint64_t answer, uint32_t instance, size_t assoc_len, size_t text_len)
 {
     uint32_t number = isap_number(answer);
+    if (fault("empty_text_counted_short") && number == ISAP_ENDED_WELL && text_len == 0)
+        return isap_plan_verify(instance, (uint32_t)assoc_len, 0);
     if (fault("one_round_more") && isap_rounds(answer) > 0)
         return answer + ((uint64_t)1 << 32);
     if (fault("rounds_of_a_refusal") && number == ISAP_LONG_TEXT)
@@ -30,14 +32,6 @@ static uint64_t spoiled(uint64_t answer)
     if (fault("key_and_nonce_exchanged") && (number == ISAP_BAD_KEY || number == ISAP_BAD_NONCE))
         return ISAP_BAD_KEY + ISAP_BAD_NONCE - number;
     return answer;
-}
-
-/* An empty text as if it were not re-keyed for. */
-static uint64_t counted(uint64_t answer, uint32_t instance, size_t assoc_len, size_t text_len)
-{
-    if (fault("empty_text_counted_short") && isap_number(answer) == ISAP_ENDED_WELL && text_len == 0)
-        return isap_plan_verify(instance, (uint32_t)assoc_len, 0);
-    return spoiled(answer);
 }
 
 uint64_t __wrap_isap_seal(uint32_t instance, const uint8_t *key, size_t key_len, const uint8_t *nonce, size_t nonce_len,
@@ -59,7 +53,7 @@ uint64_t __wrap_isap_seal(uint32_t instance, const uint8_t *key, size_t key_len,
         flip(out);
     if (fault("another_tag") && well)
         flip(tag);
-    return counted(answer, instance, assoc_len, text_len);
+    return spoiled(answer, instance, assoc_len, text_len);
 }
 
 uint64_t __wrap_isap_open(uint32_t instance, const uint8_t *key, size_t key_len, const uint8_t *nonce, size_t nonce_len,
@@ -81,5 +75,5 @@ uint64_t __wrap_isap_open(uint32_t instance, const uint8_t *key, size_t key_len,
         flip(out);
     if (fault("plaintext_bit") && isap_number(answer) == ISAP_ENDED_WELL && out_len > 0)
         flip(out + out_len - 1);
-    return counted(answer, instance, assoc_len, text_len);
+    return spoiled(answer, instance, assoc_len, text_len);
 }

@@ -1,4 +1,5 @@
-// Empty heartbeats: with neither associated data nor text there is nothing to write, and yet both re-keyings are done.
+// Empty heartbeats: with neither associated data nor text there is nothing to write, and yet both re-keyings are done. The output lent is
+// no bytes of a room of one.
 use crate::key;
 use crate::nonce;
 use crate::say;
@@ -14,7 +15,7 @@ fn say_heartbeat(instance: u32, words: &[u8]) {
 fn sealed(instance: u32) -> [u8; 16] {
     let k = key();
     let n = nonce();
-    let mut room = [170u8; 1];
+    let mut room = [0u8; 1];
     let mut tag = [0u8; 16];
     let answer = isap::seal(instance, &k, &n, b"", b"", &mut room[0..0], &mut tag);
     say_heartbeat(instance, b" sealed");
@@ -26,7 +27,7 @@ fn sealed(instance: u32) -> [u8; 16] {
 fn opened(instance: u32, words: &[u8], tag: [u8; 16]) {
     let k = key();
     let n = nonce();
-    let mut room = [170u8; 1];
+    let mut room = [0u8; 1];
     let answer = isap::open(instance, &k, &n, b"", b"", &tag, &mut room[0..0]);
     say_heartbeat(instance, words);
     say_answer(answer.number, answer.rounds);
@@ -39,7 +40,7 @@ fn opened_past_the_decision(instance: u32, tag: [u8; 16]) {
     let n = nonce();
     let begun = isap::begin_open(instance, &k, &n, &tag, 0, 0);
     let planned = plan::plan(instance, 0, 0);
-    let mut room = [170u8; 1];
+    let mut room = [0u8; 1];
     let verified = isap::slice(begun.job, b"", b"", &mut room[0..0], planned.verify);
     say_heartbeat(instance, b" opened, stopped at the decision");
     say_answer(verified.number, verified.rounds);

@@ -1,4 +1,4 @@
--- Document 01's 'Round counts to check': the ten cases marked P, by one statement over the table of them.
+-- Document 01's 'Round counts to check': the ten cases marked P, by one statement over the table of them; and so the four empty heartbeats.
 -- Assumes nothing.
 use mathlib.Core.Path.{_≡_, refl, ap, _∙_}
 use mathlib.Core.Bool.{Bool, true, _&&_}

@@ -15,7 +15,7 @@ use lib.Seq.{drop-cons, length-take-le, take-all}
 use Rattle.bits.specs.Xors.{xors, length-xors}
 use Rattle.stopping.specs.Stopped.{Call, whole}
 use Rattle.stopping.specs.Rows.{run, calls, run-append}
-use Rattle.stopping.specs.Parts.{Part, callOf, partRow, row}
+use Rattle.stopping.specs.Parts.{Part, callOf, partRow, row, row-append}
 use Rattle.bits.specs.Put.{putAt, length-putAt, take-putAt}
 use Rattle.bits.specs.Strings.{xorInto, xorAt, cut, block}
 use Rattle.mode.specs.Strings.{padded, bitsOf, bitAt, xorBit}
@@ -270,6 +270,22 @@ module _ (p : Params) (l : LawfulParams p) where
         bits-run (callOf (keyBits p x)) t ss o g (bitsOf (x .nonce)) (λ i s h. w-keyBits p l x hk hn i s t ss o g h) 127 0 s
         (omega (arith, length-128 (x .nonce) hn)) h
 
+    -- the state of Algorithm 4 after the re-keying, which is done whatever the text
+    pub rekeying-end : (s t ss o g : List ℕ) → length s ≡ p .n
+        → run (row (keyStart p x ∷ keyBits p x ∷ keyEnd p x ∷ [])) (machine (s ++ t) ss o g) ≡ machine (rekeyed p 3 (x .key) (x .nonce) ++ t) ss o g
+    unfolding partRow keyStart keyBits keyEnd part rekeyed
+    rekeying-end s t ss o g h =
+        let s₀ = perm p (p .sK) (x .key ++ iv p 3) in
+        let h₀ : length s₀ ≡ p .n = perm-long p l (p .sK) (x .key ++ iv p 3) (length-start p l (x .key) 3 hk) in
+        let s₁ = absorbBits p (take 127 (bitsOf (x .nonce))) s₀ in
+        let h₁ : length s₁ ≡ p .n = bits-long p l (take 127 (bitsOf (x .nonce))) s₀ h₀ in
+        and-then (keyStart p x) (keyBits p x ∷ keyEnd p x ∷ []) _
+        (one-call (callOf (keyStart p x)) (machine (s ++ t) ss o g) ∙ w-keyStart p l x hk hn 0 s t ss o g h)
+        (and-then (keyBits p x) (keyEnd p x ∷ []) _ (r-keyBits s₀ t ss o g h₀)
+        (and-then (keyEnd p x) [] _
+        (one-call (callOf (keyEnd p x)) (machine (s₁ ++ t) ss o g) ∙ w-keyEnd p l x hk hn 0 s₁ t ss o g h₁)
+        (done _)))
+
     -- the state after so many blocks; the nonce goes with the first of them, so that an empty text ends where re-keying does
     unfoldable pub textState : ℕ → List ℕ
     textState zero = rekeyed p 3 (x .key) (x .nonce)
@@ -311,16 +327,10 @@ module _ (p : Params) (l : LawfulParams p) where
     -- at its end: the paper's ciphertext in the output
     pub enc-end : (s t ss o g : List ℕ) → length s ≡ p .n → length o ≡ length (x .text)
         → run (row (encParts p x)) (machine (s ++ t) ss o g) ≡ machine (encState ++ t) ss (isapEnc p (x .key) (x .nonce) (x .text)) g
-    unfolding partRow keyStart keyBits keyEnd texts part encState isapEnc rekeyed
+    unfolding partRow texts part encState isapEnc
     enc-end s t ss o g h k =
-        let s₀ = perm p (p .sK) (x .key ++ iv p 3) in
-        let h₀ : length s₀ ≡ p .n = perm-long p l (p .sK) (x .key ++ iv p 3) (length-start p l (x .key) 3 hk) in
-        let s₁ = absorbBits p (take 127 (bitsOf (x .nonce))) s₀ in
-        let h₁ : length s₁ ≡ p .n = bits-long p l (take 127 (bitsOf (x .nonce))) s₀ h₀ in
-        let s₂ = rekeyed p 3 (x .key) (x .nonce) in
-        and-then (keyStart p x) (keyBits p x ∷ keyEnd p x ∷ texts p x ∷ []) _
-        (one-call (callOf (keyStart p x)) (machine (s ++ t) ss o g) ∙ w-keyStart p l x hk hn 0 s t ss o g h)
-        (and-then (keyBits p x) (keyEnd p x ∷ texts p x ∷ []) _ (r-keyBits s₀ t ss o g h₀)
-        (and-then (keyEnd p x) (texts p x ∷ []) _
-        (one-call (callOf (keyEnd p x)) (machine (s₁ ++ t) ss o g) ∙ w-keyEnd p l x hk hn 0 s₁ t ss o g h₁)
-        (and-then (texts p x) [] _ (r-texts (blocks p (length (x .text))) t ss o g refl k) (done _))))
+        let first = keyStart p x ∷ keyBits p x ∷ keyEnd p x ∷ [] in
+        ap (λ (cs : List (Call Machine)). run cs (machine (s ++ t) ss o g)) (row-append first (texts p x ∷ []))
+        ∙ run-append (row first) (row (texts p x ∷ [])) (machine (s ++ t) ss o g)
+        ∙ ap (run (row (texts p x ∷ []))) (rekeying-end s t ss o g h)
+        ∙ and-then (texts p x) [] _ (r-texts (blocks p (length (x .text))) t ss o g refl k) (done _)

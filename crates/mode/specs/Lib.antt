@@ -20,4 +20,5 @@ pub mod Between
 pub mod Outputs
 pub mod Aside
 pub mod Sessions
+pub mod Rekeyed
 pub mod Lasts

@@ -134,7 +134,14 @@ module _ (p : Params) (l : LawfulParams p) (x : Input) (hk : length (x .key) ≡
           ∙ mac-end p l x hk hn s t u v (m .out) (m .tag) long-s long-u (ap length lent)
           ∙ ap₂ (λ (c : List ℕ) (b : Bool). machine (last c ++ t) (replicate (p .n) 0 ++ v) (m .out) (pick b (take 16 (last c ++ t)) (m .tag))) lent d
 
-      -- after V rounds the first 16 state bytes are the paper's tag
+      -- after V rounds: the MAC's last state, the session bytes zero again, output and tag as they were
+      pub opening-verified : run (row (macParts p x)) m
+          ≡ machine (finished p (x .key) (hashed p (x .nonce) (x .assoc) (x .text)) ++ drop (p .n) (m .state))
+          (replicate (p .n) 0 ++ drop (p .n) (m .session)) (m .out) (m .tag)
+      unfolding last t v
+      opening-verified = verified
+
+      -- so the first 16 state bytes are the paper's tag
       pub opening-tag : take 16 (run (row (macParts p x)) m .state) ≡ isapMac p (x .key) (x .nonce) (x .assoc) (x .text)
       opening-tag = ap (λ (k : Machine). take 16 (k .state)) verified ∙ tag-front (x .text) t
 

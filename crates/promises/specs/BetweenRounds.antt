@@ -1,5 +1,6 @@
 -- Document 01's rule between two rounds, on the record and the output of a job of ISAP from a beginning: which bytes of the output are the
--- paper's, when the tag is made, and when the MAC state is set aside, after every number of rounds and every row of budgets.
+-- paper's, when the tag is made, and when the MAC state is set aside, after every number of rounds and every row of budgets; and that the
+-- encryption's re-keying is done whatever the text.
 -- Assumes nothing.
 use mathlib.Core.Path.{_≡_, ap, _∙_}
 use mathlib.Core.Logic.{_⊎_}
@@ -12,7 +13,7 @@ use Rattle.stopping.specs.Follows.{following}
 use Rattle.scheme.specs.Machine.{Machine, Input}
 use Rattle.scheme.specs.Lawful.{untouched-refused}
 use Rattle.mode.specs.Params.{Params, LawfulParams}
-use Rattle.mode.specs.Paper.{isapEnc, isapMac, seal}
+use Rattle.mode.specs.Paper.{rekeyed, isapEnc, isapMac, seal}
 use Rattle.mode.specs.Counts.{rekeyRounds, verifyRounds, encryptRounds}
 use Rattle.mode.specs.InstanceLaws.{lawful-instance}
 use Rattle.mode.specs.Instances.{paramsOf}
@@ -21,12 +22,13 @@ use Rattle.mode.specs.Theorems.{Ready, sealing-tag, accepts-if}
 use Rattle.mode.specs.Lasts.{refuses-if}
 use Rattle.mode.specs.Between.{blocksWritten, asideAfter, macState}
 use Rattle.mode.specs.Outputs.{sealing-out-after, opening-out-at}
+use Rattle.mode.specs.Rekeyed as mode
 use Rattle.mode.specs.Sessions.{tag-before-the-end, session-in, session-outside}
 use Rattle.instances.specs.Schemes.{schemeOf, lawful-scheme, scheme-fits}
 use Rattle.isap.specs.declared.Job.{Job}
 use Rattle.isap.specs.Records.{inputOf, machineOf, courseOf}
 use Rattle.isap.specs.Reached.{at}
-use Rattle.isap.specs.Lasts.{opening-seals-not, session-begun}
+use Rattle.isap.specs.Lasts.{opening-seals-not, state-begun, session-begun}
 use Rattle.isap.specs.Beyond.{Zeroed, zeros-behind, zeros-beyond}
 use Rattle.isap.specs.Budgets.{Progress}
 use Rattle.promises.specs.Jobs.{IsapJob, ready, afterRounds, Throughout, throughout}
@@ -73,6 +75,10 @@ module _ (p : Params) (x : Input) where
     pub right : received ≡ mac (x .text) → q .out ≡ blocksOver p (blocksWritten p (length (x .text)) (n - verify)) enc out
     pub wrong : (received ≡ mac (x .text) → ⊥) → q .out ≡ out
     pub session : SessionAfter p x n (q .job .session)
+
+-- a job whose state, after k rounds, is the one that Algorithm 4 leaves
+abbrev pub RekeyedAfter : Params → Input → (k n : ℕ) → Progress → Type 0
+RekeyedAfter p x k n q = n ≡ k → q .job .state ≡ rekeyed p 3 (x .key) (x .nonce) ++ replicate (50 - p .n) 0
 
 -- ---- jobs keep it
 
@@ -126,6 +132,27 @@ module _ (j : Job) (assoc text out : List ℕ) (h : IsapJob j assoc text out) wh
         wrong = λ e. untouched-refused (isapScheme p) (lawful-isap p l) x opens m (refuses-if p l x (h .key) (h .nonce) m r opens e) n;
         session = session-after n;
       })
+
+  -- R rounds into the encryption the session key stands at the front of the state; with an empty text that is all the encryption there is
+  rekeyed-after : (k : ℕ) → halted (courseOf schemeOf j assoc text) k m .state ≡ rekeyed p 3 (j .key) (j .nonce) ++ drop (p .n) (j .state)
+      → Throughout j assoc text out h (RekeyedAfter p x k)
+  unfolding afterRounds at following schemeOf isapScheme
+  rekeyed-after k e =
+      let rest = zeros-behind (p .n) 50 (scheme-fits (j .instance)) (j .state) (state-begun schemeOf j assoc text out (h .begun)) in
+      throughout j assoc text out h (RekeyedAfter p x k)
+      (λ n f. ap (λ (i : ℕ). halted (courseOf schemeOf j assoc text) i m .state) f ∙ e ∙ ap (λ (t : List ℕ). rekeyed p 3 (j .key) (j .nonce) ++ t) rest)
+
+  pub sealing-rekeyed : j .direction ≡ 1 → Throughout j assoc text out h (RekeyedAfter p x (rekeyRounds p))
+  unfolding courseOf schemeOf isapScheme
+  sealing-rekeyed d = rekeyed-after (rekeyRounds p) (mode.sealing-rekeyed p l x (h .key) (h .nonce) m r (eq-eqb (j .direction) 1 d))
+
+  pub opening-rekeyed : j .direction ≡ 2 → j .tag ≡ isapMac (paramsOf (j .instance)) (j .key) (j .nonce) assoc text
+      → Throughout j assoc text out h (RekeyedAfter p x (verify p x + rekeyRounds p))
+  unfolding courseOf schemeOf isapScheme
+  opening-rekeyed d right =
+      let opens = opening-seals-not (j .direction) d in
+      rekeyed-after (verify p x + rekeyRounds p)
+      (mode.opening-rekeyed p l x (h .key) (h .nonce) m r opens (accepts-if p l x (h .key) (h .nonce) m r opens right))
 
   -- beyond its n bytes, state and session are zero
   pub beyond-zero : Throughout j assoc text out h (λ n q. Zeroed (paramsOf (j .instance) .n) (q .job))

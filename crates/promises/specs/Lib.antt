@@ -1,5 +1,4 @@
 pub mod Jobs
 pub mod FromBeginnings
 pub mod Endings
-pub mod PastV
 pub mod BetweenRounds

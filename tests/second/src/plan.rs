@@ -32,6 +32,7 @@ pub fn verification(i: &Instance, assoc: usize, text: usize) -> usize {
     start + blocks * i.s_h + rekeying(i) + tag
 }
 
+/// Algorithm 3: the calls that make the session key, then one for each block that is left.
 pub fn encryption(i: &Instance, text: usize) -> usize {
     let mut left = text;
     let mut rounds = rekeying(i);
@@ -60,8 +61,8 @@ fn line(request: Request) -> String {
     format!("{number} {a} {m} {answer}\n")
 }
 
-/// The ten cases of document 01, then each refusal, alone and before a later one.
-const ROWS: [Request; 20] = [
+/// The ten cases of document 01, each refusal, alone and before a later one, and some more.
+const ROWS: [Request; 21] = [
     (1, 0, 0),
     (1, 0, 7),
     (1, 1, 8),
@@ -82,6 +83,7 @@ const ROWS: [Request; 20] = [
     (4, 65535, 65535),
     (3, 256, 4096),
     (1, 256, 4096),
+    (3, 0, 0),
 ];
 
 /// After the rows, a request of which one byte is missing.

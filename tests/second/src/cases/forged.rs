@@ -8,7 +8,7 @@ use crate::calls::{slice, CANNOT_STAND, HAS_ENDED, OTHER_LENGTH};
 use crate::instances::instance;
 use crate::numbers::Numbers;
 use crate::plan::{encryption, verification};
-use crate::record::{Record, OPENING, SEALING, UNENDED, WELL, WRONG_TAG};
+use crate::record::{Record, END, OPENING, SEALING, UNENDED, WELL, WRONG_TAG};
 use crate::steps::places;
 
 const STANDING: usize = 40;
@@ -117,10 +117,21 @@ fn write_standing(file: &mut Written, numbers: &mut Numbers, number: u32, direct
     }
 }
 
+/// Openings of an empty text past the decision, of which nothing but the re-keying is left.
+fn write_rekeying(file: &mut Written, numbers: &mut Numbers, number: u32) {
+    let mut record = Record { text: 0, ..any_record(numbers, number, OPENING) };
+    let (v, total) = rounds_of(&record);
+    for done in [v, v + 1, total - 1] {
+        move_to(&mut record, done);
+        let cuts = [1, u32::MAX].map(|budget| Cut { budget, lent: own_lengths(&record) });
+        write(file, numbers.next(), record.clone(), &cuts);
+    }
+}
+
 /// What is done to an unended record so that it cannot stand.
 type Damage = fn(&mut Record);
 
-const DAMAGES: [Damage; 35] = [
+const DAMAGES: [Damage; 36] = [
     // These four may leave a record that stands; then it is one more of those.
     |r| r.instance = r.instance % 4 + 1,
     |r| r.direction = SEALING + OPENING - r.direction,
@@ -182,6 +193,13 @@ const DAMAGES: [Damage; 35] = [
         move_to(r, rounds_of(r).0);
         r.ending = WELL;
     },
+    // the same at the end's place, where an opening was before an empty text was re-keyed for
+    |r| {
+        r.text = 0;
+        move_to(r, rounds_of(r).0);
+        r.ending = WELL;
+        r.place = END;
+    },
 ];
 
 fn write_not_standing(file: &mut Written, numbers: &mut Numbers, number: u32, direction: u32) {
@@ -236,6 +254,7 @@ pub fn of_instance(number: u32) -> Written {
         write_ended(&mut file, &mut numbers, number, direction);
         write_other_lengths(&mut file, &mut numbers, number, direction);
     }
+    write_rekeying(&mut file, &mut numbers, number);
     write(&mut file, numbers.next(), Record::zeros(), &[Cut { budget: 1, lent: [0, 0, 0] }]);
     file
 }
