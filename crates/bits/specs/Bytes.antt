@@ -1,13 +1,19 @@
 -- Byte strings are lists of numbers below 256.
 -- Assumes nothing.
+use mathlib.Core.Path.{_≡_, ap₂, _∙_}
 use mathlib.Core.List.{List, [], _∷_, _++_}
-use Prim.Native.Nat.{ℕ, zero, suc, _^_, _<_}
+use Prim.Native.Nat.{ℕ, zero, suc, _+_, _^_, _<_}
 use native.Mathlib.Nat.{zero-lt-suc, one-le-pow}
-use lib.ListN.{getD, take, drop, replicate}
+use lib.ListN.{length, getD, take, drop, replicate, length-append}
 
 -- every element is a byte. (`getD` past the end is 0, so no bound on the index is asked.)
 pub record Bytes (s : List ℕ) : Type 0 where
   pub each : (i : ℕ) → getD s i 0 < 256
+
+-- a buffer of n bytes
+pub record Buffer (n : ℕ) (s : List ℕ) : Type 0 where
+  pub long : length s ≡ n
+  pub bytes : Bytes s
 
 pub head-byte : {b : ℕ} {s : List ℕ} → Bytes (b ∷ s) → b < 256
 head-byte h = h .each 0
@@ -38,6 +44,11 @@ bytes-drop (suc n) {s = x ∷ s} h = bytes-drop n (tail-bytes h)
 pub bytes-append : {s t : List ℕ} → Bytes s → Bytes t → Bytes (s ++ t)
 bytes-append {s = []} h k = k
 bytes-append {s = x ∷ s} h k = cons-bytes (head-byte h) (bytes-append (tail-bytes h) k)
+
+-- two buffers, one behind the other
+pub appended : {m n : ℕ} {s t : List ℕ} → Buffer m s → Buffer n t → Buffer (m + n) (s ++ t)
+appended {s = s} {t = t} h k =
+    record { long = length-append s t ∙ ap₂ (λ (x y : ℕ). x + y) (h .long) (k .long); bytes = bytes-append (h .bytes) (k .bytes) }
 
 pub bytes-zeros : (n : ℕ) → Bytes (replicate n 0)
 bytes-zeros zero = no-bytes

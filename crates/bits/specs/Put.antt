@@ -2,10 +2,11 @@
 -- Assumes nothing.
 use mathlib.Core.Path.{_≡_, sym, ap, ap₂, _∙_}
 use mathlib.Core.Logic.{_⊎_, inl, inr}
-use mathlib.Core.List.{List, _++_, append-assoc, append-nil}
-use Prim.Native.Nat.{ℕ, _+_, _≤_}
+use mathlib.Core.List.{List, [], _++_, append-assoc, append-nil}
+use Prim.Native.Nat.{ℕ, _+_, _-_, _≤_}
+use native.Mathlib.Nat.{add-zero, zero-add}
 use native.Mathlib.Omega.{arith}
-use lib.ListN.{length, take, drop, length-append, length-drop, drop-of-length-le}
+use lib.ListN.{length, take, drop, length-append, length-drop, take-append-drop, drop-of-length-le}
 use lib.Seq.{length-take-le, take-at, drop-at, take-all, take-append-le, drop-append-le, drop-append-add, drop-drop}
 use Rattle.bits.specs.Bytes.{Bytes, bytes-take, bytes-drop, bytes-append}
 
@@ -60,6 +61,24 @@ take-putAt i n xs s h (inr e) b =
     ∙ ap (λ (u : List ℕ). take n (take i s ++ u)) (append-nil xs)
     ∙ take-all n (take i s ++ xs) (rw (length-append, length-take-le i s (omega arith)) b)
 
+-- a string put at n: what stands before it, and what stands behind it
+pub take-putAt-before : (n : ℕ) (xs s : List ℕ) → n ≤ length s → take n (putAt n xs s) ≡ take n s
+unfolding putAt
+take-putAt-before n xs s h = take-at (take n s) (xs ++ drop (n + length xs) s) n (length-take-le n s h)
+
+pub drop-putAt-behind : (n k : ℕ) (xs s : List ℕ) → n + length xs ≤ length s → n + length xs ≤ k → drop k (putAt n xs s) ≡ drop k s
+unfolding putAt
+drop-putAt-behind n k xs s h b =
+    let front = take n s ++ xs in
+    let long : length front ≡ n + length xs = length-append (take n s) xs ∙ ap (λ (i : ℕ). i + length xs) (length-take-le n s (omega arith)) in
+    let rest = k - (n + length xs) in
+    let at : k ≡ length front + rest = omega arith in
+    let same : n + length xs + rest ≡ k = omega arith in
+    ap₂ drop at (sym (append-assoc (take n s) xs (drop (n + length xs) s)))
+    ∙ drop-append-add front (drop (n + length xs) s) rest
+    ∙ drop-drop rest (n + length xs) s
+    ∙ ap (λ (i : ℕ). drop i s) same
+
 -- two strings, one behind the other, are one
 pub putAt-then : (i : ℕ) (xs ys s : List ℕ) → i + length xs ≤ length s → putAt (i + length xs) ys (putAt i xs s) ≡ putAt i (xs ++ ys) s
 unfolding putAt
@@ -74,3 +93,18 @@ putAt-then i xs ys s h =
     ∙ append-assoc (take i s) xs (ys ++ drop (i + length xs + length ys) s)
     ∙ ap (λ (u : List ℕ). take i s ++ u) (sym (append-assoc xs ys (drop (i + length xs + length ys) s)))
     ∙ ap (λ (n : ℕ). take i s ++ ((xs ++ ys) ++ drop n s)) ends
+
+pub putAt-none : (i : ℕ) (s : List ℕ) → putAt i [] s ≡ s
+unfolding putAt
+putAt-none i s = ap (λ (k : ℕ). take i s ++ drop k s) (add-zero i) ∙ take-append-drop i s
+
+pub putAt-zero : (xs s : List ℕ) → putAt 0 xs s ≡ put xs s
+unfolding putAt put
+putAt-zero xs s = ap (λ (k : ℕ). xs ++ drop k s) (zero-add (length xs))
+
+-- a string put behind the first i bytes
+pub putAt-keep : (i : ℕ) (ys s : List ℕ) → i ≤ length s → putAt i ys s ≡ put (take i s ++ ys) s
+unfolding putAt put
+putAt-keep i ys s h =
+    sym (append-assoc (take i s) ys (drop (i + length ys) s))
+    ∙ ap (λ (k : ℕ). (take i s ++ ys) ++ drop k s) (ap (λ (k : ℕ). k + length ys) (sym (length-take-le i s h)) ∙ sym (length-append (take i s) ys))

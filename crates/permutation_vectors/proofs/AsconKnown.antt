@@ -2,20 +2,15 @@
 -- second program's (tests/second); nobody is known to have published these.
 -- Assumes nothing.
 use mathlib.Core.Path.{_≡_, refl}
-use mathlib.Core.List.{List, [], _∷_}
-use Prim.Native.Nat.{ℕ, zero, suc}
+use mathlib.Core.List.{[], _∷_}
 use lib.ListN.{replicate}
 use Rattle.bits.specs.Digit.{odd, bit}
 use Rattle.bits.specs.Number.{number}
 use Rattle.bits.specs.Rotate.{rotr}
 use Rattle.bits.specs.BigEndian.{beBytes, fromBe}
 use Rattle.bits.specs.Run.{turns, rounds}
+use Rattle.permutation_vectors.proofs.Counting.{counting}
 use Rattle.ascon.specs.Permutation.{constants, pC, sboxTable, sbox, five, column, substituted, pS, sigma, pL, p, wordsOf, bytesOf, asconP}
-
--- i, i + 1, .., n numbers in all
-abbrev counting : (i n : ℕ) → List ℕ
-counting i zero = []
-counting i (suc n) = i ∷ counting (suc i) n
 
 pub zeros-12 : asconP 12 (replicate 40 0) ≡
     0x78 ∷ 0xea ∷ 0x7a ∷ 0xe5 ∷ 0xcf ∷ 0xeb ∷ 0xb1 ∷ 0x08 ∷ 0x9b ∷ 0x9b

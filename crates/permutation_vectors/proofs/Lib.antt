@@ -1,2 +1,5 @@
+mod Counting
 pub mod AsconKnown
 pub mod KeccakKnown
+pub mod ClydeKnown
+pub mod ShadowKnown

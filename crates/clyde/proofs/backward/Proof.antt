@@ -1,0 +1,47 @@
+-- `clyde::backward` meets its contract. The invariant: after n turns the rows are those after the first n rounds.
+-- Assumes nothing.
+use mathlib.Core.Path.{_≡_, sym, ap, _∙_}
+use Prim.Native.Nat.{ℕ, _-_, _≤_}
+use native.Mathlib.Omega.{arith}
+use Rattle.bits.specs.Run.{rounds, rounds-none, rounds-next}
+use Rattle.clyde.specs.Clyde.{clydeRoundInverse}
+use Rattle.clyde.proofs.backward.Statement.{statement}
+use Rattle.clyde.proofs.backward.Tie as tie
+
+abbrev Inv-loop : tie.InvT-loop
+Inv-loop k t from count v₀ n₀ v n = (n ≤ count) × (v ≡ rounds (clydeRoundInverse k t) from n v₀)
+
+abbrev μ-loop : tie.MeasureT-loop
+μ-loop k t from count v₀ n₀ v n = count - n
+
+loop-holds : tie.Need-loop-holds Inv-loop μ-loop
+loop-holds c = (omega arith, sym (rounds-none (clydeRoundInverse (c .args .k) (c .args .t)) (c .args .from) (c .args .s)))
+
+loop-again : tie.Need-loop-again Inv-loop μ-loop
+loop-again c =
+    let l = c .before .before in
+    let a = l .before .args in (
+      omega arith,
+      rounds-next (clydeRoundInverse (a .k) (a .t)) (a .from) (l .loop .n) (a .s) (l .loop .v) (c .turn-back .result) (l .loop .inv .1) (c .turn-back .ensures),
+    )
+
+returns : tie.Need-returns Inv-loop μ-loop
+returns c =
+    let l = c .before in
+    let a = l .before .args in
+    let all : l .loop .n ≡ a .count = omega arith in
+    l .loop .inv .1 ∙ ap (λ (n : ℕ). rounds (clydeRoundInverse (a .k) (a .t)) (a .from) n (a .s)) all
+
+pub backward-spec : {M : Type 1} → statement M
+backward-spec =
+    tie.close
+    (tie.spec
+    Inv-loop
+    μ-loop
+    loop-holds
+    (λ c. omega arith)
+    (λ c κs. omega arith)
+    (λ c. omega arith)
+    (λ c. omega arith)
+    loop-again
+    returns)

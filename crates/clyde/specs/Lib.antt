@@ -1,0 +1,11 @@
+pub mod Back
+pub mod Formulas
+pub mod Components
+pub mod Clyde
+pub mod Constants
+pub mod Lbox
+pub mod Sbox
+pub mod Undone
+pub mod Rounds
+pub mod OnBytes
+pub mod Theorems
