@@ -3,7 +3,7 @@
 use mathlib.Core.Path.{_≡_, refl, ap, ap₂, _∙_}
 use mathlib.Core.Bool.{Bool, true, false}
 use mathlib.Core.List.{List, [], _++_}
-use Prim.Native.Nat.{ℕ, zero, suc, _+_, _-_, _*_, _≤_}
+use Prim.Native.Nat.{ℕ, _+_, _-_, _*_, _≤_}
 use native.Mathlib.Omega.{arith}
 use lib.ListN.{length, take, drop, replicate, length-append, length-drop, length-replicate}
 use lib.Seq.{length-take-le, take-append-le}
@@ -11,8 +11,8 @@ use Rattle.bits.specs.Pick.{pick}
 use Rattle.bits.specs.Run.{front, length-once, front-within}
 use Rattle.bits.specs.Xors.{xors-front}
 use Rattle.bits.specs.Put.{put, putAt, length-put, length-putAt, put-within, putAt-within}
-use Rattle.scheme.specs.Machine.{with-tails, Exact, Machine, Input, onState, first, cipherOf, nothing}
-use Rattle.scheme.specs.Blind.{Blind, BlindPart, BlindParts, BlindCourse, blind-none, blind-append}
+use Rattle.scheme.specs.Machine.{Exact, Machine, Input, onState, first, cipherOf, nothing}
+use Rattle.scheme.specs.Blind.{Blind, BlindPart, BlindParts, BlindCourse, first-within, first-exact, blind-none, state-blind, blind-append}
 use Rattle.bits.specs.Strings.{xorInto, xorAt, block, same}
 use Rattle.mode.specs.Strings.{padded, bitAt, xorBit}
 use Rattle.bits.specs.StringLaws.{length-xorInto, length-xorAt, length-block, xorInto-front, xorAt-front}
@@ -27,14 +27,6 @@ module _ (p : Params) (l : LawfulParams p) (x : Input) where
   fits : (i : ℕ) (str s : List ℕ) → length s ≡ p .n → length (block (p .b) i str) ≤ length s
   fits i str s h = omega (arith, length-block (p .b) i str, l .blockFits)
 
-  first-within : (i : ℕ) (f : List ℕ → List ℕ) (s t : List ℕ) → f (s ++ t) ≡ f s ++ t → first i f (s ++ t) ≡ first i f s ++ t
-  first-within zero f s t h = h
-  first-within (suc i) f s t h = refl
-
-  first-exact : (i : ℕ) (f : List ℕ → List ℕ) (s : List ℕ) → length (f s) ≡ length s → length (first i f s) ≡ length s
-  first-exact zero f s h = h
-  first-exact (suc i) f s h = refl
-
   -- the first 16 bytes
   take-within : (s t : List ℕ) → length s ≡ p .n → take 16 (s ++ t) ≡ take 16 s
   take-within s t h = take-append-le 16 s t (omega (arith, l .room))
@@ -45,16 +37,6 @@ module _ (p : Params) (l : LawfulParams p) (x : Input) where
         keeps = λ m h. record { state = length-once (l .keeps) i (m .state) (omega (arith, h .state)) ∙ h .state; session = h .session };
         apart = λ t v m h. ap (λ (s : List ℕ). record { state = s; session = m .session ++ v; out = m .out; tag = m .tag })
             (front-within (p .n) (p .round i) (m .state) t (h .state));
-      }
-
-  -- what changes the state alone
-  state-blind : (f : Machine → List ℕ) → ((m : Machine) → Exact (p .n) m → length (f m) ≡ length (m .state))
-      → ((t v : List ℕ) (m : Machine) → Exact (p .n) m → f (with-tails t v m) ≡ f m ++ t)
-      → Blind (p .n) (λ m. record { state = f m; session = m .session; out = m .out; tag = m .tag })
-  state-blind f a b =
-      record {
-        keeps = λ m h. record { state = a m h ∙ h .state; session = h .session };
-        apart = λ t v m h. ap (λ (s : List ℕ). record { state = s; session = m .session ++ v; out = m .out; tag = m .tag }) (b t v m h);
       }
 
   -- a part from its enter and its leave
@@ -68,18 +50,18 @@ module _ (p : Params) (l : LawfulParams p) (x : Input) where
 
   put-blind : (k : List ℕ) → length k ≡ p .n → Blind (p .n) (onState (put k))
   put-blind k e =
-      state-blind (λ m. put k (m .state)) (λ m h. length-put k (m .state) (omega (arith, h .state)))
+      state-blind (p .n) (λ m. put k (m .state)) (λ m h. length-put k (m .state) (omega (arith, h .state)))
       (λ t v m h. put-within k (m .state) t (omega (arith, h .state)))
 
   bit-blind : (y : Bool) → Blind (p .n) (onState (xorBit y))
   bit-blind y =
-      state-blind (λ m. xorBit y (m .state)) (λ m h. length-xorBit y (m .state))
+      state-blind (p .n) (λ m. xorBit y (m .state)) (λ m h. length-xorBit y (m .state))
       (λ t v m h. xorBit-front y (m .state) t (omega (arith, h .state, l .room)))
 
   -- a bit of the bytes set aside
   aside-blind : (i : ℕ) → Blind (p .n) (λ m. onState (xorBit (bitAt (take 16 (m .session)) i)) m)
   aside-blind i =
-      state-blind (λ m. xorBit (bitAt (take 16 (m .session)) i) (m .state)) (λ m h. length-xorBit (bitAt (take 16 (m .session)) i) (m .state))
+      state-blind (p .n) (λ m. xorBit (bitAt (take 16 (m .session)) i) (m .state)) (λ m h. length-xorBit (bitAt (take 16 (m .session)) i) (m .state))
       (λ t v m h.
       ap (λ (y : List ℕ). xorBit (bitAt y i) (m .state ++ t)) (take-within (m .session) v (h .session))
       ∙ xorBit-front (bitAt (take 16 (m .session)) i) (m .state) t (omega (arith, h .state, l .room)))
@@ -88,14 +70,14 @@ module _ (p : Params) (l : LawfulParams p) (x : Input) where
   assoc-blind i =
       let str = padded (p .b) (x .assoc) in
       let y = block (p .b) i str in
-      state-blind (λ m. xorInto y (m .state)) (λ m h. length-xorInto y (m .state) (fits i str (m .state) (h .state)))
+      state-blind (p .n) (λ m. xorInto y (m .state)) (λ m h. length-xorInto y (m .state) (fits i str (m .state) (h .state)))
       (λ t v m h. xorInto-front y (m .state) t (fits i str (m .state) (h .state)))
 
   cipher-blind : (i : ℕ)
       → Blind (p .n) (λ m. onState (λ s. xorInto (block (p .b) i (padded (p .b) (cipherOf x (m .out)))) (first i (xorAt (p .n - 1) 1) s)) m)
   cipher-blind i =
       let flip = xorAt (p .n - 1) 1 in
-      state-blind (λ m. xorInto (block (p .b) i (padded (p .b) (cipherOf x (m .out)))) (first i (xorAt (p .n - 1) 1) (m .state)))
+      state-blind (p .n) (λ m. xorInto (block (p .b) i (padded (p .b) (cipherOf x (m .out)))) (first i (xorAt (p .n - 1) 1) (m .state)))
       (λ m h.
       let str = padded (p .b) (cipherOf x (m .out)) in
       let long : length (first i flip (m .state)) ≡ length (m .state) = first-exact i flip (m .state) (length-xorAt (p .n - 1) 1 (m .state)) in
@@ -150,7 +132,7 @@ module _ (p : Params) (l : LawfulParams p) (x : Input) where
     nonce-blind : (i : ℕ) → Blind (p .n) (onState (first i (putAt (p .n - 16) (x .nonce))))
     nonce-blind i =
         let f = putAt (p .n - 16) (x .nonce) in
-        state-blind (λ m. first i (putAt (p .n - 16) (x .nonce)) (m .state))
+        state-blind (p .n) (λ m. first i (putAt (p .n - 16) (x .nonce)) (m .state))
         (λ m h. first-exact i f (m .state) (length-putAt (p .n - 16) (x .nonce) (m .state) (omega (arith, h .state, l .room, hn))))
         (λ t v m h. first-within i f (m .state) t (putAt-within (p .n - 16) (x .nonce) (m .state) t (omega (arith, h .state, l .room, hn))))
 

@@ -2,14 +2,11 @@
 -- Assumes nothing.
 use mathlib.Core.Path.{_≡_, refl, sym, ap, ap₂, _∙_, subst}
 use mathlib.Core.Bool.{Bool, true, false}
-use mathlib.Core.List.{List, [], _++_}
-use Prim.Native.Nat.{ℕ, _+_, _*_}
-use native.Mathlib.Decide.{decLt}
+use mathlib.Core.List.{List, []}
+use Prim.Native.Nat.{ℕ, _+_}
 use native.Mathlib.Omega.{arith}
-use lib.ListN.{length, take, drop, length-append, length-take, length-drop}
+use lib.ListN.{length}
 use Rattle.bits.specs.Pick.{pick}
-use Rattle.bits.specs.Put.{putAt, length-putAt}
-use Rattle.bits.specs.Xors.{xors, length-xors}
 use Rattle.stopping.specs.Course.{accepted, halted}
 use Rattle.stopping.specs.Kept.{KeepsParts, keeps-parts}
 use Rattle.stopping.specs.Halts.{halted-accepted}
@@ -17,8 +14,8 @@ use Rattle.scheme.specs.Machine.{Machine, Input, Sealed, Opened, Opened.plainte
 use Rattle.scheme.specs.Scheme.{Scheme, allShapes, partsOf}
 use Rattle.scheme.specs.Lawful as schemes
 use Rattle.scheme.specs.Lawful.{Keyed, finished, KeepsCourse, LawfulScheme}
-use Rattle.bits.specs.Strings.{block, same}
-use Rattle.bits.specs.StringLaws.{length-block, same-true}
+use Rattle.bits.specs.Strings.{same}
+use Rattle.bits.specs.StringLaws.{length-putBlock, same-true}
 use Rattle.mode.specs.Params.{Params, LawfulParams}
 use Rattle.mode.specs.Paper.{isapEnc, isapMac, seal, unseal}
 use Rattle.mode.specs.PaperLaws.{enc-length, enc-twice, length-mac, open-sealed}
@@ -53,22 +50,6 @@ module _ (p : Params) (x : Input) where
   abbrev Long : Machine → Type 0
   Long k = Kept (k .out)
 
-  -- a block of output at its place; past the end there is none
-  written-long : (i : ℕ) (s o : List ℕ) → length o ≡ length (x .text)
-      → length (putAt (i * p .b) (xors s (block (p .b) i (x .text))) o) ≡ length (x .text)
-  unfolding putAt
-  written-long i s o k =
-      let y = xors s (block (p .b) i (x .text)) in
-      let size = length-xors s (block (p .b) i (x .text)) in
-      let len = length-block (p .b) i (x .text) in
-      elim (decLt (length (x .text)) (i * p .b)) [
-        | yes f ↦
-            let none : length y ≡ 0 = omega arith in
-            length-append (take (i * p .b) o) (y ++ drop (i * p .b + length y) o)
-            ∙ omega (arith, length-append y (drop (i * p .b + length y) o), length-take (i * p .b) o, length-drop (i * p .b + length y) o, k)
-        | no f ↦ length-putAt (i * p .b) y o (omega (arith, k)) ∙ k
-      ]
-
   enc-long : KeepsParts Long (encParts p x)
   unfolding KeepsParts keyStart keyBits keyEnd texts part written
   enc-long = (
@@ -77,7 +58,7 @@ module _ (p : Params) (x : Input) where
       record { enter = λ i k e. e; turn = λ i k e. e; leave = λ i k e. e },
       (
         record { enter = λ i k e. e; turn = λ i k e. e; leave = λ i k e. e },
-        (record { enter = λ i k e. e; turn = λ i k e. e; leave = λ i k e. written-long i (k .state) (k .out) e }, tt),
+        (record { enter = λ i k e. e; turn = λ i k e. e; leave = λ i k e. length-putBlock (p .b) i (k .state) (x .text) (k .out) e }, tt),
       ),
     ),
   )

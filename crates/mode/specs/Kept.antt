@@ -4,22 +4,21 @@ use mathlib.Core.Path.{_≡_, _∙_}
 use mathlib.Core.Bool.{Bool, true, false}
 use mathlib.Core.List.{List, _++_}
 use Prim.Native.Nat.{ℕ, zero, suc, _+_, _-_, _*_, _≤_, _<_}
-use native.Mathlib.Decide.{decLt}
 use native.Mathlib.Omega.{arith}
 use lib.Dec.{lit<}
-use lib.ListN.{length, take, drop, replicate, length-append, length-take, length-drop, length-replicate}
+use lib.ListN.{length, take, drop, replicate, length-append, length-drop, length-replicate}
 use lib.Seq.{length-take-le}
 use Rattle.bits.specs.Pick.{pick}
 use Rattle.bits.specs.Bytes.{Bytes, bytes-zeros, bytes-take, bytes-drop, bytes-append, cons-bytes}
 use Rattle.bits.specs.Run.{front, length-once, bytes-once}
-use Rattle.bits.specs.Xors.{xors, length-xors, bytes-xors}
+use Rattle.bits.specs.Xors.{xors, bytes-xors}
 use Rattle.stopping.specs.Kept.{KeepsPart, KeepsParts, keeps-parts}
 use Rattle.bits.specs.Put.{put, putAt, length-put, length-putAt, bytes-put, bytes-putAt}
 use Rattle.scheme.specs.Machine.{Buffer, Sound, Machine, Input, first, cipherOf, nothing}
 use Rattle.scheme.specs.Lawful.{KeepsCourse}
 use Rattle.bits.specs.Strings.{xorInto, xorAt, block}
 use Rattle.mode.specs.Strings.{padded, bitAt, xorBit}
-use Rattle.bits.specs.StringLaws.{length-xorInto, length-xorAt, length-block, bytes-xorInto, bytes-xorAt, bytes-block}
+use Rattle.bits.specs.StringLaws.{length-xorInto, length-xorAt, length-block, length-putBlock, bytes-xorInto, bytes-xorAt, bytes-block}
 use Rattle.mode.specs.StringLaws.{length-xorBit, bytes-xorBit, bytes-padded}
 use Rattle.mode.specs.Params.{Params, LawfulParams, iv}
 use Rattle.mode.specs.PaperLaws.{length-start}
@@ -92,19 +91,10 @@ module _ (p : Params) (l : LawfulParams p) where
     -- a block of output at its place; past the end there is none
     out-kept : (i : ℕ) (s o : List ℕ) → Buffer ls s → Buffer (length (x .text)) o
         → Buffer (length (x .text)) (putAt (i * p .b) (xors s (block (p .b) i (x .text))) o)
-    unfolding putAt
     out-kept i s o h k =
         let y = xors s (block (p .b) i (x .text)) in
-        let size = length-xors s (block (p .b) i (x .text)) in
-        let len = length-block (p .b) i (x .text) in
         record {
-          long = elim (decLt (length (x .text)) (i * p .b)) [
-            | yes f ↦
-                let none : length y ≡ 0 = omega arith in
-                length-append (take (i * p .b) o) (y ++ drop (i * p .b + length y) o)
-                ∙ omega (arith, length-append y (drop (i * p .b + length y) o), length-take (i * p .b) o, length-drop (i * p .b + length y) o, k .long)
-            | no f ↦ length-putAt (i * p .b) y o (omega (arith, k .long)) ∙ k .long
-          ];
+          long = length-putBlock (p .b) i s (x .text) o (k .long);
           bytes = bytes-putAt (i * p .b) y o (bytes-xors s (block (p .b) i (x .text)) (h .bytes) (bytes-block (p .b) i (x .text) (given .text))) (k .bytes);
         }
 

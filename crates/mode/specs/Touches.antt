@@ -2,14 +2,13 @@
 -- call, `macKeyStart` sets the MAC state aside with its first round, `macEnd` clears the session bytes with its first round and makes the
 -- tag with its last. Everywhere else session bytes, output and tag are as they were.
 -- Assumes nothing.
-use mathlib.Core.Path.{_≡_, refl, sym, ap, ap₂, _∙_}
-use mathlib.Core.List.{List, [], _∷_, _++_, append-assoc}
-use Prim.Native.Nat.{ℕ, suc, _+_, _-_, _*_, _≤_, _<_}
+use mathlib.Core.Path.{_≡_, refl, _∙_}
+use mathlib.Core.List.{List, [], _∷_, _++_}
+use Prim.Native.Nat.{ℕ, suc, _+_, _*_, _≤_, _<_}
 use native.Mathlib.Nat.{suc-mul, mul-le-mul-right}
 use native.Mathlib.Omega.{arith}
-use lib.ListN.{length, take, drop, length-append}
-use lib.Seq.{length-take-le, take-at, drop-append-add, drop-drop}
-use Rattle.bits.specs.Put.{putAt, length-putAt}
+use lib.ListN.{length}
+use Rattle.bits.specs.Put.{length-putAt, take-putAt-before, drop-putAt-behind}
 use Rattle.bits.specs.Xors.{xors, length-xors}
 use Rattle.stopping.specs.Parts.{Part}
 use Rattle.stopping.specs.Kept.{KeepsParts, keeps-parts}
@@ -90,24 +89,6 @@ module _ (p : Params) (x : Input) where
       (record { enter = λ i m e. e; turn = λ k m e. e; leave = λ i m e. e }, tt)
 
 -- ---- blocks at their places
-
--- a string put at n: what stands before it, and what stands behind it
-take-putAt-before : (n : ℕ) (xs s : List ℕ) → n ≤ length s → take n (putAt n xs s) ≡ take n s
-unfolding putAt
-take-putAt-before n xs s h = take-at (take n s) (xs ++ drop (n + length xs) s) n (length-take-le n s h)
-
-drop-putAt-behind : (n k : ℕ) (xs s : List ℕ) → n + length xs ≤ length s → n + length xs ≤ k → drop k (putAt n xs s) ≡ drop k s
-unfolding putAt
-drop-putAt-behind n k xs s h b =
-    let front = take n s ++ xs in
-    let long : length front ≡ n + length xs = length-append (take n s) xs ∙ ap (λ (i : ℕ). i + length xs) (length-take-le n s (omega arith)) in
-    let rest = k - (n + length xs) in
-    let at : k ≡ length front + rest = omega arith in
-    let same : n + length xs + rest ≡ k = omega arith in
-    ap₂ drop at (sym (append-assoc (take n s) xs (drop (n + length xs) s)))
-    ∙ drop-append-add front (drop (n + length xs) s) rest
-    ∙ drop-drop rest (n + length xs) s
-    ∙ ap (λ (i : ℕ). drop i s) same
 
 module _ (p : Params) (l : LawfulParams p) (x : Input) where
   -- what a call of `texts` writes lies inside the output and is no longer than a block

@@ -1,20 +1,32 @@
 -- What lies beyond the first n bytes of the state and of the session bytes is neither read nor changed: a job steps as if it were not there.
 -- Assumes nothing.
-use mathlib.Core.Path.{_≡_, refl, ap, _∙_}
+use mathlib.Core.Path.{_≡_, refl, sym, ap, _∙_, subst}
 use mathlib.Core.Bool.{Bool, true, false}
 use mathlib.Core.List.{List, [], _∷_, _++_}
 use Prim.Native.Nat.{ℕ, zero, suc}
 use lib.Dec.{eqb}
+use lib.ListN.{length}
 use Rattle.bits.specs.Pick.{pick}
-use Rattle.stopping.specs.Stopped.{entered, left, one}
-use Rattle.stopping.specs.Parts.{Part, callOf}
+use Rattle.bits.specs.Run.{turns}
+use Rattle.stopping.specs.Stopped.{entered, left, one, whole}
+use Rattle.stopping.specs.Rows.{run, calls, run-append}
+use Rattle.stopping.specs.Parts.{Part, callOf, partRow, row}
 use Rattle.stopping.specs.Places.{Place, partAt, callAt}
 use Rattle.stopping.specs.Course.{Course, Core, endingOf, parts, frontRounds, backRounds, coreAt, standsAt, step, steps}
-use Rattle.scheme.specs.Machine.{Machine, with-tails, Exact}
+use Rattle.scheme.specs.Machine.{Machine, first, with-tails, Exact}
 
 -- the same of a job
 abbrev pub core-tails : (t v : List ℕ) → Core Machine → Core Machine
 core-tails t v j = record { machine = with-tails t v (j .machine); done = j .done; ending = j .ending }
+
+-- what is done with the first call of a part alone
+pub first-within : (i : ℕ) (f : List ℕ → List ℕ) (s t : List ℕ) → f (s ++ t) ≡ f s ++ t → first i f (s ++ t) ≡ first i f s ++ t
+first-within zero f s t h = h
+first-within (suc i) f s t h = refl
+
+pub first-exact : (i : ℕ) (f : List ℕ → List ℕ) (s : List ℕ) → length (f s) ≡ length s → length (first i f s) ≡ length s
+first-exact zero f s h = h
+first-exact (suc i) f s h = refl
 
 -- ---- what neither reads nor changes what lies beyond
 
@@ -38,6 +50,16 @@ pub record BlindCourse (n : ℕ) (c : Course Machine) : Type 0 where
 module _ (n : ℕ) where
   pub blind-none : Blind n (λ m. m)
   blind-none = record { keeps = λ m h. h; apart = λ t v m h. refl }
+
+  -- what changes the state alone
+  pub state-blind : (f : Machine → List ℕ) → ((m : Machine) → Exact n m → length (f m) ≡ length (m .state))
+      → ((t v : List ℕ) (m : Machine) → Exact n m → f (with-tails t v m) ≡ f m ++ t)
+      → Blind n (λ m. record { state = f m; session = m .session; out = m .out; tag = m .tag })
+  state-blind f a b =
+      record {
+        keeps = λ m h. record { state = a m h ∙ h .state; session = h .session };
+        apart = λ t v m h. ap (λ (s : List ℕ). record { state = s; session = m .session ++ v; out = m .out; tag = m .tag }) (b t v m h);
+      }
 
   blind-then : (f g : Machine → Machine) → Blind n f → Blind n g → Blind n (λ m. g (f m))
   blind-then f g a b =
@@ -80,6 +102,38 @@ module _ (n : ℕ) where
   unfolding BlindParts
   blind-append [] ds h k = k
   blind-append (c ∷ cs) ds h k = (h .0, blind-append cs ds (h .1) k)
+
+  -- ---- rows done whole
+
+  blind-turns : (t : ℕ → Machine → Machine) → ((k : ℕ) → Blind n (t k)) → (k : ℕ) → Blind n (turns t k)
+  unfolding turns
+  blind-turns t h zero = blind-none
+  blind-turns t h (suc k) = blind-then (turns t k) (t k) (blind-turns t h k) (h k)
+
+  blind-whole : (c : Part Machine) (i : ℕ) → BlindPart n c → Blind n (whole (callOf c i))
+  unfolding whole callOf
+  blind-whole c i h =
+      blind-then (λ m. turns (c .turn) (c .shape .rounds) (c .enter i m)) (c .leave i)
+      (blind-then (c .enter i) (turns (c .turn) (c .shape .rounds)) (h .enter i) (blind-turns (c .turn) (h .turn) (c .shape .rounds))) (h .leave i)
+
+  blind-calls : (c : Part Machine) → BlindPart n c → (k i : ℕ) → Blind n (run (calls (callOf c) i k))
+  unfolding run calls
+  blind-calls c h zero i = blind-none
+  blind-calls c h (suc k) i =
+      blind-then (whole (callOf c i)) (run (calls (callOf c) (suc i) k)) (blind-whole c i h) (blind-calls c h k (suc i))
+
+  pub blind-run : (cs : List (Part Machine)) → BlindParts n cs → Blind n (run (row cs))
+  unfolding run row partRow BlindParts
+  blind-run [] h = blind-none
+  blind-run (c ∷ cs) h =
+      let f : Machine → Machine = run (partRow c) in
+      let g : Machine → Machine = run (row cs) in
+      let b : Blind n (λ m. g (f m)) = blind-then f g (blind-calls c (h .0) (c .shape .count) 0) (blind-run cs (h .1)) in
+      record {
+        keeps = λ m e. subst (Exact n) (sym (run-append (partRow c) (row cs) m)) (b .keeps m e);
+        apart = λ t v m e.
+            run-append (partRow c) (row cs) (with-tails t v m) ∙ b .apart t v m e ∙ ap (with-tails t v) (sym (run-append (partRow c) (row cs) m));
+      }
 
   -- ---- a job's steps
 

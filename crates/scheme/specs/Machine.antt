@@ -1,12 +1,12 @@
 -- What a job works on and what it is given, for any algorithm.
 -- Assumes nothing.
-use mathlib.Core.Path.{_≡_}
+use mathlib.Core.Path.{_≡_, refl}
 use mathlib.Core.Bool.{Bool}
 use mathlib.Core.List.{List, _++_}
 use Prim.Native.Nat.{ℕ, zero, suc}
 use lib.ListN.{length}
 use Rattle.bits.specs.Pick.{pick}
-use Rattle.bits.specs.Bytes.{Bytes}
+pub use Rattle.bits.specs.Bytes.{Buffer}
 
 -- the algorithm's state, the session bytes, the output, and the tag (in a sealing to be made, in an opening received)
 pub record Machine : Type 0 where
@@ -44,6 +44,10 @@ abbrev pub first : ℕ → (List ℕ → List ℕ) → List ℕ → List ℕ
 first zero f s = f s
 first (suc i) f s = s
 
+pub first-later : (i : ℕ) (f : List ℕ → List ℕ) (s : List ℕ) → (i ≡ 0 → ⊥) → first i f s ≡ s
+first-later zero f s h = absurd (h refl)
+first-later (suc i) f s h = refl
+
 -- nothing goes with it
 abbrev pub nothing : ℕ → Machine → Machine
 nothing i m = m
@@ -59,11 +63,6 @@ pub data Opened : Type 0 where
   refused : Opened
 
 -- ---- lengths and bytes
-
--- a buffer of n bytes
-pub record Buffer (n : ℕ) (s : List ℕ) : Type 0 where
-  pub long : length s ≡ n
-  pub bytes : Bytes s
 
 -- the four buffers of a machine, with a state and session bytes of so many bytes
 pub record Sound (ls lss lo : ℕ) (m : Machine) : Type 0 where
