@@ -12,7 +12,7 @@ ghost use Rattle.rows.specs.Fed.{fed, bitIn, blockIn, nothingIn, written
 ghost use Rattle.rows.specs.Gone.{roundsOf, many, CanGo, Gone};
 
 // Bits of a re-keying.
-fn bits(instance: u32, state: [u8; 50], y: &[u8], first: u32, calls: u32) -> [u8; 50]
+fn bits(instance: u32, state: [u8; 64], y: &[u8], first: u32, calls: u32) -> [u8; 64]
     requires { ⌜ (first + calls ≤ 8 * length (now y)) × (first + calls ≤ 128) ⌝ }
     ensures { λ r. ⌜ r ≡ fed (roundsOf (paramsOf instance) (paramsOf instance .sB)) (bitIn (now (y .entry))) first calls state ⌝ }
 {
@@ -25,7 +25,7 @@ fn bits(instance: u32, state: [u8; 50], y: &[u8], first: u32, calls: u32) -> [u8
 }
 
 // Blocks of a string that the MAC absorbs.
-fn blocks(instance: u32, state: [u8; 50], src: &[u8], first: u32, calls: u32) -> [u8; 50]
+fn blocks(instance: u32, state: [u8; 64], src: &[u8], first: u32, calls: u32) -> [u8; 64]
     requires { ⌜ (first + calls) * paramsOf instance .b ≤ length (now src) ⌝ }
     ensures { λ r. ⌜ r ≡ fed (roundsOf (paramsOf instance) (paramsOf instance .sH)) (blockIn (paramsOf instance .b) (now (src .entry))) first calls state ⌝ }
 {
@@ -41,12 +41,12 @@ fn blocks(instance: u32, state: [u8; 50], src: &[u8], first: u32, calls: u32) ->
 fn ciphers(
     instance: u32,
     sealing: bool,
-    state: [u8; 50],
+    state: [u8; 64],
     text: &[u8],
     out: &[u8],
     first: u32,
     calls: u32,
-) -> [u8; 50]
+) -> [u8; 64]
     requires { ⌜ ((first + calls) * paramsOf instance .b ≤ length (now text)) × (length (now out) ≡ length (now text)) ⌝ }
     ensures { λ r. ⌜ r ≡ fed (roundsOf (paramsOf instance) (paramsOf instance .sH)) (blockIn (paramsOf instance .b) (pick sealing (now (out .entry)) (now (text .entry)))) first calls state ⌝ }
 {
@@ -61,10 +61,10 @@ fn texts(
     instance: u32,
     out: &mut [u8],
     text: &[u8],
-    state: [u8; 50],
+    state: [u8; 64],
     first: u32,
     calls: u32,
-) -> [u8; 50]
+) -> [u8; 64]
     requires { ⌜ ((first + calls) * paramsOf instance .b ≤ length (now text)) × (length (now out) ≡ length (now text)) ⌝ }
     ensures { λ r. ⌜ (r ≡ fed (roundsOf (paramsOf instance) (paramsOf instance .sE)) nothingIn first calls state) × (now (out .exit) ≡ writtenBy (roundsOf (paramsOf instance) (paramsOf instance .sE)) (paramsOf instance .b) (now (text .entry)) first calls state (now (out .entry))) ⌝ }
 {
@@ -103,12 +103,12 @@ pub fn go(
     call: u32,
     calls: u32,
     nonce: [u8; 16],
-    state: [u8; 50],
-    session: [u8; 50],
+    state: [u8; 64],
+    session: [u8; 64],
     assoc: &[u8],
     text: &[u8],
     out: &mut [u8],
-) -> [u8; 50]
+) -> [u8; 64]
     requires { ⌜ CanGo instance kind call calls (now assoc) (now text) (now out) ⌝ }
     ensures { λ r. ⌜ Gone instance kind call calls sealing nonce (now (assoc .entry)) (now (text .entry)) state session (now (out .entry)) r (now (out .exit)) ⌝ }
 {

@@ -1,4 +1,3 @@
-mod Absorbing
+mod Padded
 mod Placing
 mod Picked
-mod Agreeing

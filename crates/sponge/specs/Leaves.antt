@@ -15,19 +15,11 @@ use Rattle.stopping.specs.PlaceLaws.{shape-part}
 use Rattle.stopping.specs.Places.{partAt, shapeAt}
 use Rattle.bits.specs.Strings.{block}
 use Rattle.mode.specs.Params.{Params}
-use Rattle.mode.specs.Paper.{blocks}
 use Rattle.scheme.specs.Machine.{Input, onState, machine}
 use Rattle.mode.specs.Parts.{tagOf, part, keyStart, keyBits, keyEnd, written, texts, macStart, assocs, ciphers, macKeyStart, macKeyBits, macKeyEnd, tagged, macEnd, encParts, macParts}
-use Rattle.mode.specs.Instances.{paramsOf}
 use Rattle.mode.specs.CountLaws.{shapes-sealing}
 use Rattle.plan.specs.Kinds.{shapeOf}
 use Rattle.sponge.specs.Kinds.{partOf}
-
--- an output as long as the text, and a call that is there if it is one of the text's
-pub record CanLeave (instance kind call : ℕ) (text out : List ℕ) : Type 0 where
-  pub isKind : kind < 11
-  pub outLong : length out ≡ length text
-  pub isCall : kind ≡ 3 → call < blocks (paramsOf instance) (length text)
 
 -- what the last round of a call leaves in the output, and as the tag
 abbrev pub outLeft : Params → Input → (kind call : ℕ) → (state out : List ℕ) → List ℕ

@@ -1,7 +1,7 @@
 -- Where the blocks of a string start: within it.
 -- Assumes nothing.
 use Prim.Native.Nat.{ℕ, _+_, _-_, _*_, _/_, _≤_, _<_}
-use native.Mathlib.Nat.{le-trans, mul-le-mul, mul-le-mul-right, div-mul-le-self, suc-mul}
+use native.Mathlib.Nat.{le-trans, mul-le-mul-right, div-mul-le-self, suc-mul}
 use native.Mathlib.Omega.{arith}
 use Rattle.mode.specs.Params.{Params}
 use Rattle.mode.specs.Paper.{blocks}
@@ -15,9 +15,3 @@ pub text-offset : (p : Params) (i m : ℕ) → 0 < p .b → i < blocks p m → i
 unfolding blocks
 text-offset p i m pos h =
     omega (arith, mul-le-mul-right (p .b) h, div-mul-le-self (m + (p .b - 1)) (p .b), suc-mul i (p .b))
-
--- where a block ends is a number of 64 bits, whatever the string's length
-pub end-fits : (i b : ℕ) → i < 4294967296 → b ≤ 18 → i * b + b < 18446744073709551616
-end-fits i b h k =
-    let n : i ≤ 4294967295 = omega arith in
-    omega (arith, mul-le-mul n k)

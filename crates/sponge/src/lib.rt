@@ -1,17 +1,18 @@
 // What goes with the first and the last round of a call, on the bytes of a job: the state that the sponge works on, the session bytes,
 // the output and the tag. Internal: the library above calls it, and meets each `requires`.
 // No branch and no index depends on key, nonce, state, session or text bytes.
-mod strings;
+mod absorbing;
 
-use strings::absorb_bit;
-use strings::absorb_padded;
-pub use strings::bit_at;
+use absorbing::absorb_bit;
+use absorbing::absorb_padded;
+pub use absorbing::bit_at;
+use strings::Two;
 use strings::front;
 use strings::put_at;
-use strings::write_block;
+use strings::write_text;
 ghost use mathlib.Core.Path.{_≡_};
 ghost use mathlib.Core.List.{_++_};
-ghost use Prim.Native.Nat.{_+_, _-_, _*_, _/_, _≤_, _<_, min};
+ghost use Prim.Native.Nat.{_+_, _-_, _*_, _/_, _≤_, _<_};
 ghost use lib.Dec.{eqb};
 ghost use lib.ListN.{length, take, drop, replicate};
 ghost use Rattle.bits.specs.Pick.{pick};
@@ -20,26 +21,19 @@ ghost use Rattle.bits.specs.Run.{run};
 ghost use Rattle.bits.specs.Xors.{xors};
 ghost use Rattle.ascon.specs.Permutation.{asconRound};
 ghost use Rattle.keccak.specs.Fips202.{keccakRound};
-ghost use Rattle.bits.specs.Strings.{xorInto, xorAt, block, same};
+ghost use Rattle.bits.specs.Strings.{xorInto, xorAt, block};
 ghost use Rattle.mode.specs.Strings.{padded};
 ghost use Rattle.mode.specs.Params.{iv};
 ghost use Rattle.scheme.specs.Machine.{first, given};
 ghost use Rattle.mode.specs.Instances.{paramsOf};
 ghost use Rattle.sponge.specs.Kinds.{CanEnter, Entered};
-ghost use Rattle.sponge.specs.Leaves.{CanLeave};
 ghost use Rattle.sponge.specs.Engines.{onAscon};
 ghost use Rattle.sponge.specs.Entering.{encryptionState, macKeyState, macState, sessionBytes};
 
-// The state and the session bytes.
-pub struct Two {
-    pub state: [u8; 50],
-    pub session: [u8; 50],
-}
+// ---- rounds of an instance's permutation; what lies beyond its state stays
 
-// ---- rounds of an instance's permutation
-
-// Instances 1 and 2; the ten bytes beyond the state stay.
-fn ascon_rounds(state: [u8; 50], from: u32, count: u32) -> [u8; 50]
+// Instances 1 and 2.
+fn ascon_rounds(state: [u8; 64], from: u32, count: u32) -> [u8; 64]
     requires { ⌜ from + count ≤ 12 ⌝ }
     ensures { λ r. ⌜ r ≡ run 40 asconRound from count state ⌝ }
 {
@@ -48,8 +42,8 @@ fn ascon_rounds(state: [u8; 50], from: u32, count: u32) -> [u8; 50]
     s
 }
 
-// Instances 3 and 4, whose state is the whole of it.
-fn keccak_rounds(state: [u8; 50], from: u32, count: u32) -> [u8; 50]
+// Instances 3 and 4.
+fn keccak_rounds(state: [u8; 64], from: u32, count: u32) -> [u8; 64]
     requires { ⌜ from + count ≤ 20 ⌝ }
     ensures { λ r. ⌜ r ≡ run 50 keccakRound from count state ⌝ }
 {
@@ -69,7 +63,7 @@ pub fn on_ascon(instance: u32) -> bool
 }
 
 // The rounds of the indices from `from` on, `count` of them, on the instance's part of the state.
-pub fn permute(instance: u32, state: [u8; 50], from: u32, count: u32) -> [u8; 50]
+pub fn permute(instance: u32, state: [u8; 64], from: u32, count: u32) -> [u8; 64]
     requires { ⌜ from + count ≤ paramsOf instance .most ⌝ }
     ensures { λ r. ⌜ r ≡ run (paramsOf instance .n) (paramsOf instance .round) from count state ⌝ }
 {
@@ -116,7 +110,7 @@ fn initial(instance: u32, flag: u8) -> [u8; 34]
 // ---- what goes with the first round of a call
 
 // A start: sixteen bytes and an initial value.
-fn start(instance: u32, state: [u8; 50], flag: u8, sixteen: [u8; 16]) -> [u8; 50]
+fn start(instance: u32, state: [u8; 64], flag: u8, sixteen: [u8; 16]) -> [u8; 64]
     ensures { λ r. ⌜ r ≡ put (sixteen ++ iv (paramsOf instance) flag) state ⌝ }
 {
     let value = initial(instance, flag);
@@ -126,7 +120,7 @@ fn start(instance: u32, state: [u8; 50], flag: u8, sixteen: [u8; 16]) -> [u8; 50
 }
 
 // The nonce behind the session key, before the first block of text.
-fn put_nonce(instance: u32, state: [u8; 50], nonce: [u8; 16], call: u32) -> [u8; 50]
+fn put_nonce(instance: u32, state: [u8; 64], nonce: [u8; 16], call: u32) -> [u8; 64]
     ensures { λ r. ⌜ r ≡ first call (putAt (paramsOf instance .n - 16) nonce) state ⌝ }
 {
     if call != 0 {
@@ -137,7 +131,7 @@ fn put_nonce(instance: u32, state: [u8; 50], nonce: [u8; 16], call: u32) -> [u8;
 }
 
 // The domain bit, before the first block of ciphertext.
-fn domain(instance: u32, state: [u8; 50], call: u32) -> [u8; 50]
+fn domain(instance: u32, state: [u8; 64], call: u32) -> [u8; 64]
     ensures { λ r. ⌜ r ≡ first call (xorAt (paramsOf instance .n - 1) 1) state ⌝ }
 {
     if call != 0 {
@@ -150,7 +144,7 @@ fn domain(instance: u32, state: [u8; 50], call: u32) -> [u8; 50]
 }
 
 // Block `call` of a string, with its padding.
-fn absorb_block(instance: u32, state: [u8; 50], call: u32, src: &[u8]) -> [u8; 50]
+fn absorb_block(instance: u32, state: [u8; 64], call: u32, src: &[u8]) -> [u8; 64]
     requires { ⌜ call < length (now src) / paramsOf instance .b + 1 ⌝ }
     ensures { λ r. ⌜ r ≡ xorInto (block (paramsOf instance .b) call (padded (paramsOf instance .b) (now (src .entry)))) state ⌝ }
 {
@@ -162,11 +156,11 @@ fn absorb_block(instance: u32, state: [u8; 50], call: u32, src: &[u8]) -> [u8; 5
 fn absorb_cipher(
     instance: u32,
     sealing: bool,
-    state: [u8; 50],
+    state: [u8; 64],
     call: u32,
     text: &[u8],
     out: &[u8],
-) -> [u8; 50]
+) -> [u8; 64]
     requires { ⌜ (call < length (now text) / paramsOf instance .b + 1) × (length (now out) ≡ length (now text)) ⌝ }
     ensures { λ r. ⌜ r ≡ xorInto (block (paramsOf instance .b) call (padded (paramsOf instance .b) (pick sealing (now (out .entry)) (now (text .entry))))) (first call (xorAt (paramsOf instance .n - 1) 1) state) ⌝ }
 {
@@ -178,25 +172,25 @@ fn absorb_cipher(
 }
 
 // The MAC state set aside into the session bytes; taken back behind the session key; and the session bytes cleared.
-fn aside(instance: u32, state: [u8; 50], session: [u8; 50]) -> [u8; 50]
+fn aside(instance: u32, state: [u8; 64], session: [u8; 64]) -> [u8; 64]
     ensures { λ r. ⌜ r ≡ put (take (paramsOf instance .n) state) session ⌝ }
 {
     let n = state_bytes(instance);
     put_at(session, &state[..n], 0)
 }
 
-fn taken_back(instance: u32, state: [u8; 50], session: [u8; 50]) -> [u8; 50]
+fn taken_back(instance: u32, state: [u8; 64], session: [u8; 64]) -> [u8; 64]
     ensures { λ r. ⌜ r ≡ put (take 16 state ++ drop 16 (take (paramsOf instance .n) session)) state ⌝ }
 {
     let n = state_bytes(instance);
     put_at(state, &session[16..n], 16)
 }
 
-fn cleared(instance: u32, session: [u8; 50]) -> [u8; 50]
+fn cleared(instance: u32, session: [u8; 64]) -> [u8; 64]
     ensures { λ r. ⌜ r ≡ put (replicate (paramsOf instance .n) 0) session ⌝ }
 {
     let n = state_bytes(instance);
-    let zeros = [0u8; 50];
+    let zeros = [0u8; 64];
     put_at(session, &zeros[..n], 0)
 }
 
@@ -207,8 +201,8 @@ fn enter_encryption(
     call: u32,
     key: [u8; 16],
     nonce: [u8; 16],
-    state: [u8; 50],
-) -> [u8; 50]
+    state: [u8; 64],
+) -> [u8; 64]
     requires { ⌜ (kind ≡ 1 → call < 128) ⌝ }
     ensures { λ r. ⌜ r ≡ encryptionState (paramsOf instance) key nonce kind call state ⌝ }
 {
@@ -230,9 +224,9 @@ fn enter_mac_key(
     kind: u32,
     call: u32,
     key: [u8; 16],
-    state: [u8; 50],
-    session: [u8; 50],
-) -> [u8; 50]
+    state: [u8; 64],
+    session: [u8; 64],
+) -> [u8; 64]
     requires { ⌜ (kind ≡ 8 → call < 128) ⌝ }
     ensures { λ r. ⌜ r ≡ macKeyState (paramsOf instance) key kind call state session ⌝ }
 {
@@ -256,12 +250,12 @@ fn enter_mac(
     call: u32,
     key: [u8; 16],
     nonce: [u8; 16],
-    state: [u8; 50],
-    session: [u8; 50],
+    state: [u8; 64],
+    session: [u8; 64],
     assoc: &[u8],
     text: &[u8],
     out: &[u8],
-) -> [u8; 50]
+) -> [u8; 64]
     requires { ⌜ CanEnter instance kind call (given sealing key nonce (now assoc) (now text)) (now out) ⌝ }
     ensures { λ r. ⌜ r ≡ macState (paramsOf instance) (given sealing key nonce (now (assoc .entry)) (now (text .entry))) kind call state session (now (out .entry)) ⌝ }
 {
@@ -278,7 +272,7 @@ fn enter_mac(
 }
 
 // The session bytes change twice: the MAC state goes in, and is cleared once it is taken back.
-fn enter_session(instance: u32, kind: u32, state: [u8; 50], session: [u8; 50]) -> [u8; 50]
+fn enter_session(instance: u32, kind: u32, state: [u8; 64], session: [u8; 64]) -> [u8; 64]
     ensures { λ r. ⌜ r ≡ sessionBytes (paramsOf instance) kind state session ⌝ }
 {
     if kind == 7 {
@@ -298,8 +292,8 @@ pub fn enter(
     call: u32,
     key: [u8; 16],
     nonce: [u8; 16],
-    state: [u8; 50],
-    session: [u8; 50],
+    state: [u8; 64],
+    session: [u8; 64],
     assoc: &[u8],
     text: &[u8],
     out: &[u8],
@@ -333,29 +327,20 @@ pub fn enter(
 
 // ---- what goes with the last round of a call
 
-// Where a block ends that may be the last, short one.
-fn smaller(x: usize, y: usize) -> usize
-    ensures { λ r. ⌜ r ≡ min x y ⌝ }
-{
-    if x <= y { x } else { y }
-}
-
 // What the last round of a call leaves in the output: a block of text xored with the state.
-pub fn leave_out(out: &mut [u8], text: &[u8], instance: u32, kind: u32, call: u32, state: [u8; 50])
-    requires { ⌜ CanLeave instance kind call (now text) (now out) ⌝ }
+pub fn leave_out(out: &mut [u8], text: &[u8], instance: u32, kind: u32, call: u32, state: [u8; 64])
+    requires { ⌜ length (now out) ≡ length (now text) ⌝ }
     ensures { λ _. ⌜ now (out .exit) ≡ pick (eqb kind 3) (putAt (call * paramsOf instance .b) (xors state (block (paramsOf instance .b) call (now (text .entry)))) (now (out .entry))) (now (out .entry)) ⌝ }
 {
     if kind != 3 {
         return;
     }
     let b = block_bytes(instance);
-    let a = call as usize * b;
-    let e = smaller(a + b, text.len());
-    write_block(&mut out[a..e], &text[a..e], state);
+    write_text(out, text, state, call as usize, b);
 }
 
 // What it leaves as the tag: the state's first sixteen bytes at the end of a sealing's MAC.
-pub fn leave_tag(sealing: bool, kind: u32, state: [u8; 50], tag: [u8; 16]) -> [u8; 16]
+pub fn leave_tag(sealing: bool, kind: u32, state: [u8; 64], tag: [u8; 16]) -> [u8; 16]
     ensures { λ r. ⌜ r ≡ pick (eqb kind 10) (pick sealing (take 16 state) tag) tag ⌝ }
 {
     if kind != 10 {
@@ -365,17 +350,4 @@ pub fn leave_tag(sealing: bool, kind: u32, state: [u8; 50], tag: [u8; 16]) -> [u
         return front(state);
     }
     tag
-}
-
-// Whether a tag is the state's first sixteen bytes. All sixteen are read, whatever they are.
-pub fn same_tag(tag: [u8; 16], state: [u8; 50]) -> bool
-    ensures { λ r. ⌜ r ≡ same tag (take 16 state) ⌝ }
-{
-    let mut d: u8 = 0;
-    let mut i = 0;
-    while i < 16 {
-        d = d | (tag[i] ^ state[i]);
-        i += 1;
-    }
-    d == 0
 }

@@ -35,13 +35,13 @@ returns c =
 slice-aggregate-bits-2 : tie.Need-slice-aggregate-bits-2
 slice-aggregate-bits-2 c =
     let session = c .before .before .before .before .before .before .args .t8 in
-    let long : length session ≡ 50 = search needs in
+    let long : length session ≡ 64 = search needs in
     sym (length-take-le 16 session (omega arith))
 
 bits-requires-2 : tie.Need-bits-requires-2
 bits-requires-2 c κs =
     let start = c .before .before .before .before .before .before in
-    let long : length (start .args .t8) ≡ 50 = search needs in
+    let long : length (start .args .t8) ≡ 64 = search needs in
     let room = session-room (start .pre) (c .before .if2 .taken) in
     (omega (arith, room, length-take-le 16 (start .args .t8) (omega arith)), room)
 

@@ -6,15 +6,14 @@ use native.Mathlib.Omega.{arith}
 use lib.ListN.{length, take, length-take}
 use lib.Seq.{length-take-le}
 use borrow.Author.Needs.{needs}
-use Rattle.bits.specs.Put.{put}
-use Rattle.sponge.proofs.Placing.{putAt-zero}
+use Rattle.bits.specs.Put.{put, putAt-zero}
 use Rattle.sponge.proofs.aside.Statement.{statement}
 use Rattle.sponge.proofs.aside.Tie as tie
 
 slice-aggregate-put-at : tie.Need-slice-aggregate-put-at
 slice-aggregate-put-at c =
     let state = c .before .before .args .t2 in
-    let long : length state ≡ 50 = search needs in
+    let long : length state ≡ 64 = search needs in
     sym (length-take-le (c .before .state-bytes .result) state (omega (arith, c .before .state-bytes .ensures)))
 
 put-at-requires : tie.Need-put-at-requires

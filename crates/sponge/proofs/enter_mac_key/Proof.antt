@@ -17,13 +17,13 @@ returns c = rw (macKeyState, eq-eqb _ _ (c .before .if1 .taken)) (c .start .ensu
 slice-aggregate-absorb-bit : tie.Need-slice-aggregate-absorb-bit
 slice-aggregate-absorb-bit c =
     let session = c .before .before .before .args .t6 in
-    let long : length session ≡ 50 = search needs in
+    let long : length session ≡ 64 = search needs in
     sym (length-take-le 16 session (omega arith))
 
 absorb-bit-requires : tie.Need-absorb-bit-requires
 absorb-bit-requires c κs =
     let start = c .before .before .before in
-    let long : length (start .args .t6) ≡ 50 = search needs in
+    let long : length (start .args .t6) ≡ 64 = search needs in
     omega (arith, start .pre (c .before .if2 .taken), length-take-le 16 (start .args .t6) (omega arith))
 
 returns-2 : tie.Need-returns-2
@@ -33,13 +33,13 @@ returns-2 c = rw (macKeyState, ne-eqb _ _ (c .before .before .before .if1 .left)
 slice-aggregate-absorb-bit-2 : tie.Need-slice-aggregate-absorb-bit-2
 slice-aggregate-absorb-bit-2 c =
     let session = c .before .before .before .before .args .t6 in
-    let long : length session ≡ 50 = search needs in
+    let long : length session ≡ 64 = search needs in
     sym (length-take-le 16 session (omega arith))
 
 absorb-bit-requires-2 : tie.Need-absorb-bit-requires-2
 absorb-bit-requires-2 c κs =
     let session = c .before .before .before .before .args .t6 in
-    let long : length session ≡ 50 = search needs in
+    let long : length session ≡ 64 = search needs in
     omega (arith, length-take-le 16 session (omega arith))
 
 returns-3 : tie.Need-returns-3

@@ -7,10 +7,9 @@ use native.Mathlib.Omega.{arith}
 use lib.ListN.{length, take, length-take}
 use lib.Seq.{length-take-le}
 use borrow.Author.Needs.{needs}
-use Rattle.bits.specs.Put.{putAt, putAt-then}
+use Rattle.bits.specs.Put.{putAt, putAt-then, putAt-zero}
 use Rattle.mode.specs.Params.{iv}
 use Rattle.mode.specs.Instances.{paramsOf}
-use Rattle.sponge.proofs.Placing.{putAt-zero}
 use Rattle.sponge.proofs.start.Statement.{statement}
 use Rattle.sponge.proofs.start.Tie as tie
 
@@ -32,7 +31,7 @@ returns c =
     let n = c .before .before .before .before .state-bytes in
     let value = c .before .before .before .before .before .initial in
     let long : length (a .t4) ≡ 16 = search needs in
-    let state-long : length (a .state) ≡ 50 = search needs in
+    let state-long : length (a .state) ≡ 64 = search needs in
     let flagged = iv (paramsOf (a .instance)) (a .flag) in
     let e : take (n .result - 16) (value .result) ≡ flagged = ap (λ (k : ℕ). take (k - 16) (value .result)) (n .ensures .0) ∙ value .ensures in
     let at : 16 ≡ 0 + length (a .t4) = omega arith in

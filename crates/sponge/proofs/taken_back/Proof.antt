@@ -6,8 +6,8 @@ use Prim.Native.Nat.{ℕ}
 use native.Mathlib.Omega.{arith}
 use lib.ListN.{length, take, drop}
 use borrow.Author.Needs.{needs}
-use Rattle.bits.specs.Put.{put, putAt}
-use Rattle.sponge.proofs.Placing.{drop-take, putAt-keep}
+use Rattle.bits.specs.Put.{put, putAt, putAt-keep}
+use Rattle.sponge.proofs.Placing.{drop-take}
 use Rattle.sponge.proofs.taken_back.Statement.{statement}
 use Rattle.sponge.proofs.taken_back.Tie as tie
 
@@ -15,7 +15,7 @@ returns : tie.Need-returns
 returns c =
     let a = c .before .before .before .before .args in
     let n = c .before .before .before .state-bytes in
-    let long : length (a .state) ≡ 50 = search needs in
+    let long : length (a .state) ≡ 64 = search needs in
     c .put-at .ensures
     ∙ ap (λ (u : List ℕ). putAt 16 u (a .state)) (sym (drop-take 16 (n .result) (a .t3) (omega (arith, n .ensures))))
     ∙ putAt-keep 16 (drop 16 (take (n .result) (a .t3))) (a .state) (omega arith)

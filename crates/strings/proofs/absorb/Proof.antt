@@ -1,4 +1,4 @@
--- `sponge::strings::absorb` meets its contract. The invariant: the first i bytes of the part are in.
+-- `strings::absorb` meets its contract. The invariant: the first i bytes of the part are in.
 -- Assumes nothing.
 use mathlib.Core.Path.{_≡_, sym, ap, _∙_}
 use mathlib.Core.List.{List}
@@ -9,12 +9,13 @@ use lib.ListN.{length, take, length-set}
 use lib.Seq.{take-length}
 use borrow.Author.Needs.{needs}
 use Rattle.bits.specs.Strings.{xorInto}
-use Rattle.sponge.proofs.Absorbing.{xorInto-none, xorInto-more}
-use Rattle.sponge.proofs.strings.absorb.Statement.{statement}
-use Rattle.sponge.proofs.strings.absorb.Tie as tie
+use Rattle.bits.specs.StringLaws.{xorInto-none}
+use Rattle.strings.proofs.Placing.{xorInto-more}
+use Rattle.strings.proofs.absorb.Statement.{statement}
+use Rattle.strings.proofs.absorb.Tie as tie
 
 abbrev Inv-loop : tie.InvT-loop
-Inv-loop part s₀ i₀ s i = (i ≤ length part) × (length s ≡ 50) × (s ≡ xorInto (take i part) s₀)
+Inv-loop part s₀ i₀ s i = (i ≤ length part) × (length s ≡ 64) × (s ≡ xorInto (take i part) s₀)
 
 abbrev μ-loop : tie.MeasureT-loop
 μ-loop part s₀ i₀ s i = length part - i

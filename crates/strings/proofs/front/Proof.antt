@@ -1,4 +1,4 @@
--- `sponge::strings::front` meets its contract. The invariant: the first i bytes are copied.
+-- `strings::front` meets its contract. The invariant: the first i bytes are copied.
 -- Assumes nothing.
 use mathlib.Core.Path.{_≡_, refl, ap, _∙_}
 use mathlib.Core.List.{List, _++_, append-nil}
@@ -8,8 +8,8 @@ use native.Mathlib.Omega.{arith}
 use lib.ListN.{length, take, drop, set, getD, replicate, length-set}
 use borrow.Author.Needs.{needs}
 use Rattle.bits.specs.Copying.{copy-more}
-use Rattle.sponge.proofs.strings.front.Statement.{statement}
-use Rattle.sponge.proofs.strings.front.Tie as tie
+use Rattle.strings.proofs.front.Statement.{statement}
+use Rattle.strings.proofs.front.Tie as tie
 
 abbrev Inv-loop : tie.InvT-loop
 Inv-loop state t₀ i₀ t i = (i ≤ 16) × (length t ≡ 16) × (t ≡ take i state ++ drop i t₀)
@@ -24,7 +24,7 @@ loop-again : tie.Need-loop-again Inv-loop μ-loop
 loop-again c =
     let l = c .before .loop in
     let state = c .before .before .args .t1 in
-    let long : length state ≡ 50 = search needs in (
+    let long : length state ≡ 64 = search needs in (
       omega arith,
       simp length-set (l .inv .1),
       rw add-one (ap (λ (u : List ℕ). set u (l .i) (getD state (l .i) 0)) (l .inv .2) ∙ copy-more state (replicate 16 0) (l .i) (omega arith) (omega arith)),

@@ -1,4 +1,4 @@
--- `sponge::strings::absorb_padded` meets its contract: a whole block is a part of the string, the last one its rest and the padding's byte.
+-- `sponge::absorbing::absorb_padded` meets its contract: a whole block is a part of the string, the last one its rest and the padding's byte.
 -- Assumes nothing.
 use mathlib.Core.Path.{_≡_, sym, ap, _∙_}
 use mathlib.Core.List.{List}
@@ -9,16 +9,16 @@ use lib.Seq.{take-all}
 use borrow.Author.Needs.{needs}
 use Rattle.bits.specs.Strings.{xorInto, xorAt}
 use Rattle.mode.specs.StringLaws.{block-full}
-use Rattle.sponge.specs.Offsets.{end-fits}
-use Rattle.sponge.proofs.Absorbing.{absorb-last}
-use Rattle.sponge.proofs.strings.absorb_padded.Statement.{statement}
-use Rattle.sponge.proofs.strings.absorb_padded.Tie as tie
+use Rattle.strings.specs.Offsets.{end-fits}
+use Rattle.sponge.proofs.Padded.{absorb-last}
+use Rattle.sponge.proofs.absorbing.absorb_padded.Statement.{statement}
+use Rattle.sponge.proofs.absorbing.absorb_padded.Tie as tie
 
 mul-a : tie.Need-mul-a
-mul-a c = omega (arith, end-fits (c .before .args .i) (c .before .args .b) (omega arith) (c .before .pre .1))
+mul-a c = omega (arith, end-fits (c .before .args .i) (c .before .args .b) (omega arith) (omega (arith, c .before .pre .1)))
 
 add-e : tie.Need-add-e
-add-e c = omega (arith, end-fits (c .before .args .i) (c .before .args .b) (omega arith) (c .before .pre .1))
+add-e c = omega (arith, end-fits (c .before .args .i) (c .before .args .b) (omega arith) (omega (arith, c .before .pre .1)))
 
 returns : tie.Need-returns
 returns c =
@@ -34,7 +34,7 @@ unfolding xorAt
 returns-2 c =
     let a = c .before .before .before .before .args in
     let src = a .src .now in
-    let long : length (a .state) ≡ 50 = search needs in
+    let long : length (a .state) ≡ 64 = search needs in
     let at = length src - a .i * a .b in
     let rest = take-all at (drop (a .i * a .b) src) (omega (arith, length-drop (a .i * a .b) src)) in
     ap (xorAt at 128) (c .absorb2 .ensures ∙ ap (λ (u : List ℕ). xorInto u (a .state)) rest)

@@ -1,4 +1,4 @@
--- `sponge::strings::put_at` meets its contract. The invariant: the first i bytes of the part are in place.
+-- `strings::put_at` meets its contract. The invariant: the first i bytes of the part are in place.
 -- Assumes nothing.
 use mathlib.Core.Path.{_≡_, sym, ap, _∙_}
 use mathlib.Core.List.{List}
@@ -8,13 +8,13 @@ use native.Mathlib.Omega.{arith}
 use lib.ListN.{length, take, getD, set, length-set}
 use lib.Seq.{take-length}
 use borrow.Author.Needs.{needs}
-use Rattle.bits.specs.Put.{putAt}
-use Rattle.sponge.proofs.Placing.{putAt-none, putAt-more}
-use Rattle.sponge.proofs.strings.put_at.Statement.{statement}
-use Rattle.sponge.proofs.strings.put_at.Tie as tie
+use Rattle.bits.specs.Put.{putAt, putAt-none}
+use Rattle.strings.proofs.Placing.{putAt-more}
+use Rattle.strings.proofs.put_at.Statement.{statement}
+use Rattle.strings.proofs.put_at.Tie as tie
 
 abbrev Inv-loop : tie.InvT-loop
-Inv-loop part at s₀ i₀ s i = (i ≤ length part) × (length s ≡ 50) × (s ≡ putAt at (take i part) s₀)
+Inv-loop part at s₀ i₀ s i = (i ≤ length part) × (length s ≡ 64) × (s ≡ putAt at (take i part) s₀)
 
 abbrev μ-loop : tie.MeasureT-loop
 μ-loop part at s₀ i₀ s i = length part - i
@@ -28,7 +28,7 @@ loop-again c =
     let l = c .before .before .loop in
     let part = a .part .now in
     let h : l .i < length part = omega arith in
-    let long : length (a .state) ≡ 50 = search needs in (
+    let long : length (a .state) ≡ 64 = search needs in (
       omega arith,
       simp length-set (l .inv .1),
       rw add-one

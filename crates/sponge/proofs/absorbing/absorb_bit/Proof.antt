@@ -1,4 +1,4 @@
--- `sponge::strings::absorb_bit` meets its contract: the bit at its place in a byte is 0 or 128.
+-- `sponge::absorbing::absorb_bit` meets its contract: the bit at its place in a byte is 0 or 128.
 -- Assumes nothing.
 use mathlib.Core.Path.{ap}
 use Prim.Native.Nat.{ℕ, _*_}
@@ -7,8 +7,8 @@ use borrow.Author.Needs.{needs}
 use Rattle.bits.specs.Number.{value-lt}
 use Rattle.bits.specs.Strings.{xorAt}
 use Rattle.mode.specs.Strings.{bitAt, xorBit}
-use Rattle.sponge.proofs.strings.absorb_bit.Statement.{statement}
-use Rattle.sponge.proofs.strings.absorb_bit.Tie as tie
+use Rattle.sponge.proofs.absorbing.absorb_bit.Statement.{statement}
+use Rattle.sponge.proofs.absorbing.absorb_bit.Tie as tie
 
 mul-s : tie.Need-mul-s
 mul-s c =

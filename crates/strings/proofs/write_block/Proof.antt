@@ -1,4 +1,4 @@
--- `sponge::strings::write_block` meets its contract. The invariant: the first i bytes are written.
+-- `strings::write_block` meets its contract. The invariant: the first i bytes are written.
 -- Assumes nothing.
 use mathlib.Core.Path.{_≡_, sym, ap, _∙_}
 use mathlib.Core.List.{List, _++_, append-nil}
@@ -10,9 +10,9 @@ use lib.ListN.{length, take, drop, set, getD, length-set, drop-of-length-le}
 use lib.Seq.{take-length}
 use borrow.Author.Needs.{needs}
 use Rattle.bits.specs.Xors.{xors, xors-none}
-use Rattle.sponge.proofs.Placing.{xors-more}
-use Rattle.sponge.proofs.strings.write_block.Statement.{statement}
-use Rattle.sponge.proofs.strings.write_block.Tie as tie
+use Rattle.strings.proofs.Placing.{xors-more}
+use Rattle.strings.proofs.write_block.Statement.{statement}
+use Rattle.strings.proofs.write_block.Tie as tie
 
 abbrev Inv-loop : tie.InvT-loop
 Inv-loop out₀ text state i₀ out i = (i ≤ length text) × (length out ≡ length text) × (out ≡ xors state (take i text) ++ drop i out₀)
@@ -29,7 +29,7 @@ loop-again c =
     let l = c .before .before .loop in
     let text = a .text .now in
     let h : l .i < length text = omega arith in
-    let long : length (a .t3) ≡ 50 = search needs in (
+    let long : length (a .t3) ≡ 64 = search needs in (
       omega arith,
       simp length-set (l .inv .1),
       rw add-one

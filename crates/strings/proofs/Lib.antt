@@ -1,0 +1,2 @@
+mod Placing
+mod Agreeing
