@@ -2,7 +2,7 @@
 -- Assumes nothing.
 use mathlib.Core.Path.{_≡_, refl}
 use mathlib.Core.Bool.{Bool, true, false}
-use Prim.Native.Nat.{ℕ, _+_, _/_, _≤_}
+use Prim.Native.Nat.{ℕ, zero, suc, _+_, _/_, _≤_}
 use native.Mathlib.Omega.{arith}
 use Rattle.scheme.specs.Scheme.{allCount}
 use Rattle.mode.specs.Paper.{blocks}
@@ -11,7 +11,12 @@ use Rattle.mode.specs.Instances.{isapA128a, isapA128, isapK128a, isapK128, para
 use Rattle.mode.specs.CountLaws.{all-count}
 use Rattle.mode.specs.Counts.{rekeyRounds, verifyRounds, encryptRounds, frontCount, backCount}
 use Rattle.mode.specs.Isap.{isapScheme}
-use Rattle.instances.specs.Schemes.{schemeOf}
+use Rattle.s1p.specs.Paper as paper
+use Rattle.s1p.specs.Parts.{unlessEmpty}
+use Rattle.s1p.specs.Counts as s1p
+use Rattle.s1p.specs.Scheme.{s1pScheme}
+use Rattle.s1p.specs.Spook.{spookScheme}
+use Rattle.instances.specs.Schemes.{isSpook, schemeOf, by-scheme}
 
 -- bytes of associated data and of text
 abbrev pub mostAssoc : ℕ
@@ -50,14 +55,28 @@ pub blocks-most : (i m : ℕ) → m ≤ mostText → blocks (paramsOf i) m ≤ m
 unfolding blocks isapA128a isapA128 isapK128a isapK128
 blocks-most i m hm = by-instance (λ p. blocks p m ≤ mostText / 8) (omega arith) (omega arith) (omega arith) (omega arith) i
 
+-- Spook's blocks have 32 bytes
+pub walk-most : (m : ℕ) → m ≤ mostText → paper.blocks m ≤ mostText / 8
+unfolding paper.blocks
+walk-most m hm = omega arith
+
+pub spook-most : (b : Bool) (a m : ℕ) → a ≤ mostAssoc → m ≤ mostText → s1p.verifyRounds a m + s1p.backCount b a m ≤ mostVerify
+unfolding s1p.verifyRounds s1p.backCount s1p.secondRounds paper.blocks unlessEmpty
+spook-most true a m ha hm = omega arith
+spook-most false a zero ha hm = omega arith
+spook-most false a (suc m) ha hm = omega arith
+
 pub verification-most : (i a m : ℕ) → a ≤ mostAssoc → m ≤ mostText → schemeOf i .frontCount false a m ≤ mostVerify
-unfolding schemeOf isapScheme frontCount
-verification-most i a m ha hm = verify-most i a m ha hm
+unfolding s1pScheme isapScheme frontCount
+verification-most i a m ha hm =
+    by-scheme (λ s. s .frontCount false a m ≤ mostVerify) (omega (arith, spook-most true a m ha hm)) (λ j. verify-most j a m ha hm) i
 
 pub total-most : (i : ℕ) (b : Bool) (a m : ℕ) → a ≤ mostAssoc → m ≤ mostText → allCount (schemeOf i) b a m ≤ mostRounds
-unfolding allCount schemeOf isapScheme
-total-most i b a m ha hm = omega (arith, all-count (paramsOf i) b a m, both-most i a m ha hm)
+unfolding allCount s1pScheme isapScheme
+total-most i b a m ha hm =
+    by-scheme (λ s. allCount s b a m ≤ mostRounds) (omega (arith, spook-most b a m ha hm))
+    (λ j. omega (arith, all-count (paramsOf j) b a m, both-most j a m ha hm)) i
 
 pub largest : allCount (schemeOf 2) true mostAssoc mostText ≡ mostRounds
-unfolding allCount schemeOf isapScheme frontCount backCount verifyRounds encryptRounds rekeyRounds blocks paramsOf isapA128
+unfolding allCount schemeOf isSpook isapScheme frontCount backCount verifyRounds encryptRounds rekeyRounds blocks paramsOf isapA128
 largest = refl

@@ -1,2 +1,3 @@
+mod ByScheme
 mod Counting
 mod Walk

@@ -20,7 +20,6 @@ use Rattle.mode.specs.InstanceLaws.{by-instance}
 use Rattle.mode.specs.Instances.{isapA128a, isapA128, isapK128a, isapK128, paramsOf}
 use Rattle.mode.specs.Counts.{encShapes, macShapes, frontShapes, backShapes, allShapes}
 use Rattle.mode.specs.Isap.{isapScheme}
-use Rattle.instances.specs.Schemes.{schemeOf}
 
 unfoldable pub kindOf : Bool → ℕ → ℕ
 kindOf sealing part = pick sealing part ((part + 4) % 11)
@@ -71,18 +70,15 @@ module _ (p : Params) (a m : ℕ) where
 
 -- ---- as the scheme has them
 
-pub eleven-parts : (i : ℕ) (s : Bool) → 11 ≡ partsOf (schemeOf i) s
-unfolding partsOf schemeOf isapScheme schemes.allShapes allShapes
+pub eleven-parts : (i : ℕ) (s : Bool) → 11 ≡ partsOf (isapScheme (paramsOf i)) s
+unfolding partsOf isapScheme schemes.allShapes allShapes
 eleven-parts i s = sym (eleven (paramsOf i) 0 0 s)
 
-pub parts-most : (i : ℕ) (s : Bool) → partsOf (schemeOf i) s ≤ 255
-parts-most i s = omega (arith, eleven-parts i s)
-
-pub shape-of-part : (i : ℕ) (s : Bool) (a m part kind : ℕ) → part < partsOf (schemeOf i) s → kind ≡ kindOf s part
-    → shapeOf (paramsOf i) a m kind ≡ shapeAt (schemes.allShapes (schemeOf i) s a m) part
-unfolding schemeOf isapScheme schemes.allShapes allShapes
+pub shape-of-part : (i : ℕ) (s : Bool) (a m part kind : ℕ) → part < 11 → kind ≡ kindOf s part
+    → shapeOf (paramsOf i) a m kind ≡ shapeAt (schemes.allShapes (isapScheme (paramsOf i)) s a m) part
+unfolding isapScheme schemes.allShapes allShapes
 shape-of-part i s a m part kind h k =
-    ap (shapeOf (paramsOf i) a m) k ∙ sym (parts-of (paramsOf i) a m s part (omega (arith, h, eleven-parts i s)))
+    ap (shapeOf (paramsOf i) a m) k ∙ sym (parts-of (paramsOf i) a m s part h)
 
 fits-most : (i : ℕ) → passes (leb (paramsOf i .sH) (paramsOf i .most) ∷ leb (paramsOf i .sB) (paramsOf i .most) ∷ leb (paramsOf i .sE) (paramsOf i .most) ∷ leb (paramsOf i .sK) (paramsOf i .most) ∷ []) ≡ true
 unfolding isapA128a isapA128 isapK128a isapK128 passes

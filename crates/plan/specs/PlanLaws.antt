@@ -20,6 +20,7 @@ one-plan i a m r r′ h k = h ∙ sym k
 pub record Within (r : Planned) : Type 0 where
   pub number : r .number ≤ 5
   pub verify : r .verify ≤ mostVerify
+  pub sealing : r .sealing ≤ mostRounds
   pub total : r .total ≤ mostRounds
 
 pub plan-within : (i a m : ℕ) → Within (planOf i a m)
@@ -31,14 +32,19 @@ plan-within i a m = go (known i) (leb a mostAssoc) (leb m mostText) refl refl
         (pick b
         (pick c
         (pick d
-        (record { number = 0; verify = schemeOf i .frontCount false a m; total = allCount (schemeOf i) false a m })
+        (record { number = 0; verify = schemeOf i .frontCount false a m; sealing = allCount (schemeOf i) true a m; total = allCount (schemeOf i) false a m })
         (unplanned 5))
         (unplanned 4))
         (unplanned 1))
     go true true true e f =
         let ha = leb-true a mostAssoc e in
         let hm = leb-true m mostText f in
-        record { number = omega arith; verify = verification-most i a m ha hm; total = total-most i false a m ha hm }
-    go true true false e f = record { number = omega arith; verify = omega arith; total = omega arith }
-    go true false d e f = record { number = omega arith; verify = omega arith; total = omega arith }
-    go false c d e f = record { number = omega arith; verify = omega arith; total = omega arith }
+        record {
+          number = omega arith;
+          verify = verification-most i a m ha hm;
+          sealing = total-most i true a m ha hm;
+          total = total-most i false a m ha hm;
+        }
+    go true true false e f = record { number = omega arith; verify = omega arith; sealing = omega arith; total = omega arith }
+    go true false d e f = record { number = omega arith; verify = omega arith; sealing = omega arith; total = omega arith }
+    go false c d e f = record { number = omega arith; verify = omega arith; sealing = omega arith; total = omega arith }

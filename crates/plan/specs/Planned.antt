@@ -1,7 +1,7 @@
 -- What the counting leaf promises: a plan or its refusal, and a place as the code has it.
 -- Assumes nothing.
 use mathlib.Core.Path.{_≡_}
-use mathlib.Core.Bool.{Bool, false}
+use mathlib.Core.Bool.{Bool, true, false}
 use Prim.Native.Nat.{ℕ, _+_, _≤_, _<_}
 use lib.Dec.{leb}
 use Rattle.bits.specs.Pick.{pick}
@@ -13,16 +13,16 @@ use Rattle.instances.specs.Limits.{mostAssoc, mostText}
 use Rattle.plan.specs.declared.Planned.{Planned}
 use Rattle.plan.specs.declared.places.Place.{Place}
 
--- document 01's refusals of a plan, in its order: 1, 4, 5; else the rounds of an opening, up to its decision and in all
+-- document 01's refusals of a plan, in its order: 1, 4, 5; else the rounds of an opening up to its decision, of a sealing, and of an opening
 abbrev pub unplanned : (number : ℕ) → Planned
-unplanned number = record { number = number; verify = 0; total = 0 }
+unplanned number = record { number = number; verify = 0; sealing = 0; total = 0 }
 
 unfoldable pub planOf : (i a m : ℕ) → Planned
 planOf i a m =
     pick (known i)
     (pick (leb a mostAssoc)
     (pick (leb m mostText)
-    (record { number = 0; verify = schemeOf i .frontCount false a m; total = allCount (schemeOf i) false a m })
+    (record { number = 0; verify = schemeOf i .frontCount false a m; sealing = allCount (schemeOf i) true a m; total = allCount (schemeOf i) false a m })
     (unplanned 5))
     (unplanned 4))
     (unplanned 1)

@@ -5,6 +5,7 @@ mod moves;
 mod numbers;
 mod places;
 mod shapes;
+mod walks;
 
 pub use kinds::kind_of;
 pub use kinds::rounds_of;
@@ -17,6 +18,7 @@ pub use shapes::back_rounds;
 pub use shapes::count_at;
 pub use shapes::front_rounds;
 pub use shapes::is_known;
+pub use shapes::is_spook;
 pub use shapes::key_bytes;
 pub use shapes::parts_of;
 pub use shapes::rounds_at;
@@ -28,10 +30,12 @@ pub const MOST_ASSOC: u32 = 256;
 
 pub const MOST_TEXT: u32 = 4096;
 
-// What an opening takes: the rounds of its verification, and of the whole. Refused with the number of document 01, 1, 4 or 5.
+// What a job takes: the rounds of a verification, of a sealing, and of an opening with a right tag. Refused with the number of document 01,
+// 1, 4 or 5.
 pub struct Planned {
     pub number: u32,
     pub verify: u32,
+    pub sealing: u32,
     pub total: u32,
 }
 
@@ -41,6 +45,7 @@ fn refused(number: u32) -> Planned
     Planned {
         number,
         verify: 0,
+        sealing: 0,
         total: 0,
     }
 }
@@ -61,6 +66,7 @@ pub fn plan(instance: u32, a: u32, m: u32) -> Planned
     Planned {
         number: 0,
         verify,
+        sealing: front_rounds(instance, true, a, m),
         total: verify + back_rounds(instance, false, a, m),
     }
 }

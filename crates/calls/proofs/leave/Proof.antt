@@ -1,36 +1,48 @@
--- `calls::leave` meets its contract.
+-- `calls::leave` meets its contract: the scheme's own code does, in either case.
 -- Assumes nothing.
-use mathlib.Core.List.{[]}
+use mathlib.Core.Path.{subst}
 use lib.ListN.{length}
 use borrow.Author.Needs.{needs}
-use Rattle.calls.proofs.Parts.{of-eleven, can-leave, leaves}
+use Rattle.scheme.specs.Scheme.{Scheme}
+use Rattle.scheme.specs.Calls.{At}
+use Rattle.calls.proofs.Dispatch.{is-spook, is-isap, leaves-by}
 use Rattle.calls.proofs.leave.Statement.{statement}
 use Rattle.calls.proofs.leave.Tie as tie
 
-kind-of-requires : tie.Need-kind-of-requires
-kind-of-requires c κs =
-    let z = c .before .before .before in
+leave-requires : tie.Need-leave-requires
+leave-requires c κs =
+    let t = c .before in
+    let z = c .before .before .before .before .before .before in
     let a = z .args in
-    of-eleven (a .instance) (a .sealing) (a .at .part) (length (a .assoc .now)) (length (a .text .now)) (z .pre .0 .isPart)
-
-leave-out-requires : tie.Need-leave-out-requires
-leave-out-requires c κs =
-    let k = c .before .kind-of in
-    let z = c .before .before .before .before .before in
-    let a = z .args in
-    let h = of-eleven (a .instance) (a .sealing) (a .at .part) (length (a .assoc .now)) (length (a .text .now)) (z .pre .0 .isPart) in
-    can-leave (a .instance) (a .sealing) (a .at .part) (k .result) (k .ensures .0) h (a .at .call) (a .at .round) [] [] (a .assoc .now) (a .text .now) (a .out .now)
-    (z .pre .0) (z .pre .1) (k .ensures .1)
+    let e = is-spook (a .instance) _ (t .before .is-spook .ensures) (t .if1 .taken) in
+    let at = subst (λ (s : Scheme). At s (a .sealing) (length (a .assoc .now)) (length (a .text .now)) (a .at .part) (a .at .call) (a .at .round)) e (z .pre .0) in
+    record { isPart = at .isPart; isCall = at .isCall; outLong = z .pre .1 }
 
 returns : tie.Need-returns
 returns c =
-    let o = c .before .before .before .leave-out in
-    let k = c .before .before .before .before .before .kind-of in
-    let z = c .before .before .before .before .before .before .before .before .before in
+    let t = c .before .before .before .before in
+    let g = c .before .before .leave in
+    let a = c .before .before .before .before .before .before .before .before .before .args in
+    leaves-by (is-spook (a .instance) _ (t .before .is-spook .ensures) (t .if1 .taken)) (a .sealing) (a .at .part) (a .at .call) (a .assoc .now) (a .text .now) (a .state)
+    (a .out .now) (a .tag) _ (g .result) (g .ensures)
+
+leave-requires-2 : tie.Need-leave-requires-2
+leave-requires-2 c κs =
+    let t = c .before in
+    let z = c .before .before .before .before .before .before in
     let a = z .args in
-    let h = of-eleven (a .instance) (a .sealing) (a .at .part) (length (a .assoc .now)) (length (a .text .now)) (z .pre .0 .isPart) in
-    leaves (a .instance) (a .sealing) (a .at .part) (k .result) (k .ensures .0) h (a .at .call) (a .assoc .now) (a .text .now) (a .state) (a .out .now) (a .tag) _ (c .leave-tag .result) (k .ensures .1)
-    (o .ensures) (c .leave-tag .ensures)
+    let e = is-isap (a .instance) _ (t .before .is-spook .ensures) (t .if1 .left) in
+    (subst (λ (s : Scheme). At s (a .sealing) (length (a .assoc .now)) (length (a .text .now)) (a .at .part) (a .at .call) (a .at .round)) e (z .pre .0), z .pre .1)
+
+returns-2 : tie.Need-returns-2
+returns-2 c =
+    let t = c .before .before .before .before in
+    let g = c .before .before .leave2 in
+    let a = c .before .before .before .before .before .before .before .before .before .args in
+    leaves-by (is-isap (a .instance) _ (t .before .is-spook .ensures) (t .if1 .left)) (a .sealing) (a .at .part) (a .at .call) (a .assoc .now) (a .text .now) (a .state)
+    (a .out .now) (a .tag) _ (g .result) (g .ensures)
 
 pub leave-spec : {M : Type 1} → statement M
-leave-spec = tie.close (tie.spec kind-of-requires leave-out-requires (λ c κs. search needs) (λ c. search needs) returns)
+leave-spec =
+    tie.close
+    (tie.spec (λ c κs. search needs) leave-requires (λ c. search needs) returns leave-requires-2 (λ c. search needs) returns-2)

@@ -1,44 +1,85 @@
--- `calls::rounds` meets its contract.
+-- `calls::rounds` meets its contract: the scheme's own code does, in either case.
 -- Assumes nothing.
-use native.Mathlib.Omega.{arith}
-use Rattle.calls.proofs.Parts.{of-eleven, within, under, turns-by}
+use mathlib.Core.Path.{refl, sym, subst}
+use borrow.Author.Needs.{needs}
+use Rattle.scheme.specs.Scheme.{Scheme}
+use Rattle.scheme.specs.Calls.{Rest, Turns}
+use Rattle.calls.proofs.Dispatch.{is-spook, is-isap}
+use Rattle.calls.proofs.SpookCalls.{can-turn, turns}
 use Rattle.calls.proofs.rounds.Statement.{statement}
 use Rattle.calls.proofs.rounds.Tie as tie
 
-kind-of-requires : tie.Need-kind-of-requires
-kind-of-requires c κs = let a = c .args in of-eleven (a .instance) (a .sealing) (a .at .part) (c .pre .a) (c .pre .m) (c .pre .isPart)
-
-index-of-requires : tie.Need-index-of-requires
-index-of-requires c κs =
-    let r = c .rounds-of in
-    let k = c .before .kind-of in
-    let z = c .before .before in
-    let a = z .args in
-    let h = of-eleven (a .instance) (a .sealing) (a .at .part) (z .pre .a) (z .pre .m) (z .pre .isPart) in
-    let w = within (a .instance) (a .sealing) (a .at .part) (k .result) (k .ensures .0) h (r .result) (r .ensures .0) (a .at .round) (a .count) (z .pre) in
-    (under (a .instance) (a .sealing) (a .at .part) (k .result) (k .ensures .0) h (r .result) (r .ensures .0) (a .at .round) (a .count) (k .ensures .1), omega (arith, w))
-
-permute-requires : tie.Need-permute-requires
-permute-requires c κs =
-    let r = c .before .rounds-of in
-    let k = c .before .before .kind-of in
+rounds-requires : tie.Need-rounds-requires
+rounds-requires c κs =
+    let t = c .before in
     let z = c .before .before .before in
     let a = z .args in
-    let h = of-eleven (a .instance) (a .sealing) (a .at .part) (z .pre .a) (z .pre .m) (z .pre .isPart) in
-    let w = within (a .instance) (a .sealing) (a .at .part) (k .result) (k .ensures .0) h (r .result) (r .ensures .0) (a .at .round) (a .count) (z .pre) in
-    let u = under (a .instance) (a .sealing) (a .at .part) (k .result) (k .ensures .0) h (r .result) (r .ensures .0) (a .at .round) (a .count) (k .ensures .1) in
-    omega (arith, w, u, c .index-of .ensures)
+    let e = is-spook (a .instance) _ (t .before .is-spook .ensures) (t .if1 .taken) in
+    can-turn (c .if2 .taken) (a .at .part) (a .at .round) (a .count) (subst (λ (s : Scheme). Rest s (a .sealing) (a .at .part) (a .at .round) (a .count)) e (z .pre))
 
 returns : tie.Need-returns
 returns c =
-    let i = c .before .index-of in
-    let r = c .before .before .rounds-of in
-    let k = c .before .before .before .kind-of in
-    let z = c .before .before .before .before in
+    let t = c .before .before in
+    let a = c .before .before .before .before .args in
+    let e = is-spook (a .instance) _ (t .before .is-spook .ensures) (t .if1 .taken) in
+    subst (λ (s : Scheme). Turns s (a .sealing) (a .key) (a .at .part) (a .at .round) (a .count) (a .state) (a .session) (c .rounds .result)) (sym e)
+    (turns (c .before .if2 .taken) (a .key) (a .at .part) (a .at .round) (a .count) (a .state) (a .session) (c .rounds .result) (c .rounds .ensures))
+
+rounds-requires-2 : tie.Need-rounds-requires-2
+rounds-requires-2 c κs =
+    let t = c .before .before .before in
+    let z = c .before .before .before .before .before in
     let a = z .args in
-    let h = of-eleven (a .instance) (a .sealing) (a .at .part) (z .pre .a) (z .pre .m) (z .pre .isPart) in
-    turns-by (a .instance) (a .sealing) (a .at .part) (k .result) (k .ensures .0) h (r .result) (i .result) (a .at .round) (a .count) (k .ensures .1) (r .ensures .0) (i .ensures)
-    (a .key) (a .state) (a .session) (c .permute .result) (c .permute .ensures)
+    let e = is-spook (a .instance) _ (t .before .is-spook .ensures) (t .if1 .taken) in
+    can-turn (c .before .before .if2 .left) (a .at .part) (a .at .round) (a .count) (subst (λ (s : Scheme). Rest s (a .sealing) (a .at .part) (a .at .round) (a .count)) e (z .pre))
+
+returns-2 : tie.Need-returns-2
+returns-2 c =
+    let t = c .before .before .before .before in
+    let a = c .before .before .before .before .before .before .args in
+    let e = is-spook (a .instance) _ (t .before .is-spook .ensures) (t .if1 .taken) in
+    subst (λ (s : Scheme). Turns s (a .sealing) (a .key) (a .at .part) (a .at .round) (a .count) (a .state) (a .session) (c .rounds2 .result)) (sym e)
+    (turns (c .before .before .before .if2 .left) (a .key) (a .at .part) (a .at .round) (a .count) (a .state) (a .session) (c .rounds2 .result) (c .rounds2 .ensures))
+
+rounds-requires-3 : tie.Need-rounds-requires-3
+rounds-requires-3 c κs =
+    let t = c .before .before .before in
+    let z = c .before .before .before .before .before in
+    let a = z .args in
+    let e = is-spook (a .instance) _ (t .before .is-spook .ensures) (t .if1 .taken) in
+    can-turn refl (a .at .part) (a .at .round) (a .count) (subst (λ (s : Scheme). Rest s (a .sealing) (a .at .part) (a .at .round) (a .count)) e (z .pre))
+
+returns-3 : tie.Need-returns-3
+returns-3 c =
+    let t = c .before .before .before .before in
+    let a = c .before .before .before .before .before .before .args in
+    let e = is-spook (a .instance) _ (t .before .is-spook .ensures) (t .if1 .taken) in
+    subst (λ (s : Scheme). Turns s (a .sealing) (a .key) (a .at .part) (a .at .round) (a .count) (a .state) (a .session) (c .rounds3 .result)) (sym e)
+    (turns refl (a .key) (a .at .part) (a .at .round) (a .count) (a .state) (a .session) (c .rounds3 .result) (c .rounds3 .ensures))
+
+rounds-requires-4 : tie.Need-rounds-requires-4
+rounds-requires-4 c κs =
+    let z = c .before .before in
+    let a = z .args in
+    subst (λ (s : Scheme). Rest s (a .sealing) (a .at .part) (a .at .round) (a .count)) (is-isap (a .instance) _ (c .before .is-spook .ensures) (c .if1 .left)) (z .pre)
+
+returns-4 : tie.Need-returns-4
+returns-4 c =
+    let t = c .before in
+    let a = c .before .before .before .args in
+    subst (λ (s : Scheme). Turns s (a .sealing) (a .key) (a .at .part) (a .at .round) (a .count) (a .state) (a .session) (c .rounds4 .result))
+    (sym (is-isap (a .instance) _ (t .before .is-spook .ensures) (t .if1 .left))) (c .rounds4 .ensures)
 
 pub rounds-spec : {M : Type 1} → statement M
-rounds-spec = tie.close (tie.spec kind-of-requires (λ c κs. c .kind-of .ensures .1) index-of-requires permute-requires returns)
+rounds-spec =
+    tie.close
+    (tie.spec
+    (λ c κs. search needs)
+    rounds-requires
+    returns
+    rounds-requires-2
+    returns-2
+    rounds-requires-3
+    returns-3
+    rounds-requires-4
+    returns-4)

@@ -8,7 +8,7 @@ use Rattle.scheme.specs.Scheme.{allShapes}
 use Rattle.scheme.specs.Lawful.{all-some}
 use Rattle.instances.specs.Schemes.{schemeOf, lawful-scheme}
 use Rattle.plan.specs.Planned.{placed}
-use Rattle.plan.specs.Kinds.{parts-most}
+use Rattle.plan.proofs.ByScheme.{parts-most}
 use Rattle.plan.proofs.Walk.{moved-within, moved-call, moved-part}
 use Rattle.plan.proofs.moves.moved.Statement.{statement}
 use Rattle.plan.proofs.moves.moved.Tie as tie

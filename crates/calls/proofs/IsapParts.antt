@@ -11,7 +11,7 @@ use Rattle.bits.specs.Every.{upto-at}
 use Rattle.bits.specs.Run.{turns, run}
 use Rattle.bits.specs.Strings.{same}
 use Rattle.stopping.specs.Parts.{Shape, Part}
-use Rattle.stopping.specs.Places.{partAt, shapeAt}
+use Rattle.stopping.specs.Places.{partAt}
 use Rattle.stopping.specs.Course.{parts}
 use Rattle.stopping.specs.Wholes.{wholes}
 use Rattle.scheme.specs.Machine.{Machine, Input, machine, given, onState}
@@ -22,14 +22,12 @@ use Rattle.mode.specs.Params.{Params}
 use Rattle.mode.specs.Parts.{sealingCourse, openingCourse, course}
 use Rattle.mode.specs.Instances.{paramsOf}
 use Rattle.mode.specs.Calls.{turns-run-from}
-use Rattle.mode.specs.Counts.{allShapes, encShapes, macShapes}
-use Rattle.mode.specs.Isap.{isapScheme}
-use Rattle.instances.specs.Schemes.{schemeOf, lawful-scheme}
+use Rattle.mode.specs.InstanceLaws.{lawful-instance}
+use Rattle.mode.specs.Isap.{isapScheme, lawful-isap}
 use Rattle.plan.specs.Kinds.{kindOf, shapeOf, eleven-parts, shape-of-part, rounds-most}
 use Rattle.sponge.specs.Kinds.{partOf, CanEnter, Entered}
-use Rattle.sponge.specs.Leaves.{CanLeave, outLeft, tagLeft, shape-of, turn-of, leave-of}
+use Rattle.sponge.specs.Leaves.{outLeft, tagLeft, shape-of, turn-of, leave-of}
 use Rattle.rows.specs.Gone.{many, CanGo, Gone}
-use Rattle.calls.specs.Rowable.{rowable}
 
 -- ---- the part at a place, by its kind
 
@@ -44,26 +42,26 @@ module _ (p : Params) (x : Input) where
 
 module _ (instance : ℕ) (sealing : Bool) (part : ℕ) where
   pub part-at : part < 11 → (key nonce assoc text : List ℕ) → (kind : ℕ) → kind ≡ kindOf sealing part
-      → partIn (schemeOf instance) (given sealing key nonce assoc text) part ≡ partOf (paramsOf instance) (given sealing key nonce assoc text) kind
-  unfolding schemeOf isapScheme course
+      → partIn (isapScheme (paramsOf instance)) (given sealing key nonce assoc text) part ≡ partOf (paramsOf instance) (given sealing key nonce assoc text) kind
+  unfolding isapScheme course
   part-at h key nonce assoc text kind k =
       let x = given sealing key nonce assoc text in
       parts-are (paramsOf instance) x sealing part h ∙ ap (partOf (paramsOf instance) x) (sym k)
 
   -- there are eleven parts, and each has the shape of its kind
-  pub of-eleven : (a m : ℕ) → part < length (schemes.allShapes (schemeOf instance) sealing a m) → part < 11
-  of-eleven a m h = omega (arith, h, lawful-scheme instance .fixed sealing a m, eleven-parts instance sealing)
+  pub of-eleven : (a m : ℕ) → part < length (schemes.allShapes (isapScheme (paramsOf instance)) sealing a m) → part < 11
+  of-eleven a m h = omega (arith, h, lawful-isap (paramsOf instance) (lawful-instance instance) .fixed sealing a m, eleven-parts instance sealing)
 
-  pub counted : part < partsOf (schemeOf instance) sealing → part < 11
+  pub counted : part < partsOf (isapScheme (paramsOf instance)) sealing → part < 11
   counted h = omega (arith, h, eleven-parts instance sealing)
 
   module _ (kind : ℕ) (k : kind ≡ kindOf sealing part) (h : part < 11) where
-    pub shape-at : (a m : ℕ) → shapeIn (schemeOf instance) sealing a m part ≡ shapeOf (paramsOf instance) a m kind
-    shape-at a m = sym (shape-of-part instance sealing a m part kind (omega (arith, eleven-parts instance sealing)) k)
+    pub shape-at : (a m : ℕ) → shapeIn (isapScheme (paramsOf instance)) sealing a m part ≡ shapeOf (paramsOf instance) a m kind
+    shape-at a m = sym (shape-of-part instance sealing a m part kind h k)
 
     -- ---- what the code asks
 
-    module _ (call round : ℕ) (key nonce assoc text out : List ℕ) (at : At (schemeOf instance) sealing (length assoc) (length text) part call round) (long : length out ≡ length text) (small : kind < 11) where
+    module _ (call round : ℕ) (key nonce assoc text out : List ℕ) (at : At (isapScheme (paramsOf instance)) sealing (length assoc) (length text) part call round) (long : length out ≡ length text) (small : kind < 11) where
       is-call : call < shapeOf (paramsOf instance) (length assoc) (length text) kind .count
       is-call = subst (λ (q : Shape). call < q .count) (shape-at (length assoc) (length text)) (at .isCall)
 
@@ -75,25 +73,15 @@ module _ (instance : ℕ) (sealing : Bool) (part : ℕ) where
             outLong = long;
           }
 
-      pub can-leave : CanLeave instance kind call text out
-      unfolding shapeOf shapeAt encShapes macShapes
-      can-leave =
-          record {
-            isKind = small;
-            outLong = long;
-            isCall = λ three. subst (λ (q : ℕ). call < shapeOf (paramsOf instance) (length assoc) (length text) q .count) three is-call;
-          }
-
     module _ (rounds : ℕ) (r : (a m : ℕ) → rounds ≡ shapeOf (paramsOf instance) a m kind .rounds) (round count : ℕ) where
-      pub within : Rest (schemeOf instance) sealing part round count → round + count ≤ rounds
+      pub within : Rest (isapScheme (paramsOf instance)) sealing part round count → round + count ≤ rounds
       within f = omega (arith, f .fits, r (f .a) (f .m), ap Shape.rounds (shape-at (f .a) (f .m)))
 
       pub under : kind < 11 → rounds ≤ paramsOf instance .most
       under small = omega (arith, r 0 0, rounds-most instance 0 0 kind small)
 
-    pub can-go : (call calls : ℕ) (assoc text out : List ℕ) → Inner (schemeOf instance) sealing (length assoc) (length text) part call calls
-        → rowable instance sealing part ≡ true → length out ≡ length text → CanGo instance kind call calls assoc text out
-    unfolding rowable
+    pub can-go : (call calls : ℕ) (assoc text out : List ℕ) → Inner (isapScheme (paramsOf instance)) sealing (length assoc) (length text) part call calls
+        → many (kindOf sealing part) ≡ true → length out ≡ length text → CanGo instance kind call calls assoc text out
     can-go call calls assoc text out i y long =
         record {
           isMany = ap many k ∙ y;
@@ -106,7 +94,7 @@ module _ (instance : ℕ) (sealing : Bool) (part : ℕ) where
 
     pub enters : (call : ℕ) (key nonce assoc text state session out tag s ss : List ℕ)
         → Entered instance kind call (given sealing key nonce assoc text) state session out s ss
-        → Enters (schemeOf instance) (given sealing key nonce assoc text) part call (machine state session out tag) s ss
+        → Enters (isapScheme (paramsOf instance)) (given sealing key nonce assoc text) part call (machine state session out tag) s ss
     unfolding Entered Enters
     enters call key nonce assoc text state session out tag s ss e =
         ap (λ (q : Part Machine). q .enter call (machine state session out tag)) (part-at h key nonce assoc text kind k) ∙ e tag
@@ -114,7 +102,7 @@ module _ (instance : ℕ) (sealing : Bool) (part : ℕ) where
     pub leaves : (call : ℕ) (assoc text state out tag out′ tag′ : List ℕ) → kind < 11
         → out′ ≡ outLeft (paramsOf instance) (given sealing [] [] assoc text) kind call state out
         → tag′ ≡ tagLeft (given sealing [] [] assoc text) kind state tag
-        → Leaves (schemeOf instance) sealing part call assoc text state out tag out′ tag′
+        → Leaves (isapScheme (paramsOf instance)) sealing part call assoc text state out tag out′ tag′
     unfolding Leaves
     leaves call assoc text state out tag out′ tag′ small o g key nonce session =
         let x = given sealing key nonce assoc text in
@@ -124,7 +112,7 @@ module _ (instance : ℕ) (sealing : Bool) (part : ℕ) where
 
     pub goes : (call calls : ℕ) (nonce assoc text state session out state′ out′ : List ℕ)
         → Gone instance kind call calls sealing nonce assoc text state session out state′ out′
-        → Goes (schemeOf instance) sealing part call calls nonce assoc text state session out state′ out′
+        → Goes (isapScheme (paramsOf instance)) sealing part call calls nonce assoc text state session out state′ out′
     unfolding Gone Goes
     goes call calls nonce assoc text state session out state′ out′ g key tag =
         ap (λ (q : Part Machine). wholes q call calls (machine state session out tag)) (part-at h key nonce assoc text kind k) ∙ g key tag
@@ -141,7 +129,7 @@ module _ (instance : ℕ) (sealing : Bool) (part : ℕ) where
     pub turns-by : (rounds from round count : ℕ) → kind < 11 → ((a m : ℕ) → rounds ≡ shapeOf (paramsOf instance) a m kind .rounds)
         → from ≡ paramsOf instance .most - rounds + round → (key state session state′ : List ℕ)
         → state′ ≡ run (paramsOf instance .n) (paramsOf instance .round) from count state
-        → Turns (schemeOf instance) sealing key part round count state session state′
+        → Turns (isapScheme (paramsOf instance)) sealing key part round count state session state′
     unfolding Turns
     turns-by rounds from round count small r f key state session state′ e nonce assoc text out tag =
         let p = paramsOf instance in
@@ -154,16 +142,7 @@ module _ (instance : ℕ) (sealing : Bool) (part : ℕ) where
 
 -- ---- the decision
 
-abbrev acceptsOf : Bool → (state tag : List ℕ) → Bool
-acceptsOf sealing state tag = pick sealing true (same tag (take 16 state))
-
-pub decides : (instance : ℕ) (sealing : Bool) (state session tag : List ℕ) (r : Bool) → r ≡ acceptsOf sealing state tag
-    → Decides (schemeOf instance) sealing state session tag r
-unfolding Decides schemeOf isapScheme course sealingCourse openingCourse
-decides instance sealing state session tag r e key nonce assoc text out = e ∙ go sealing
-  where
-    go : (b : Bool) → acceptsOf b state tag
-        ≡ pick b (sealingCourse (paramsOf instance) (given sealing key nonce assoc text)) (openingCourse (paramsOf instance) (given sealing key nonce assoc text)) .accepts
-        (machine state session out tag)
-    go true = refl
-    go false = refl
+pub decides : (instance : ℕ) (state session tag : List ℕ) (r : Bool) → r ≡ same tag (take 16 state)
+    → Decides (isapScheme (paramsOf instance)) false state session tag r
+unfolding Decides isapScheme course openingCourse
+decides instance state session tag r e key nonce assoc text out = e
