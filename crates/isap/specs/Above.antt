@@ -26,7 +26,7 @@ use Rattle.isap.specs.Fits.{Fits, fits, unrefused}
 -- an instance's number is a byte
 pub known-byte : (i : ℕ) → known i ≡ true → i < 256
 unfolding known
-known-byte i k = omega (arith, leb-true i 4 (and-right (leb 1 i) (leb i 4) k))
+known-byte i k = omega (arith, leb-true i 5 (and-right (leb 1 i) (leb i 5) k))
 
 -- the answer 0 is no refusal's
 answered-well : (refusal : ℕ) (r : Answer) → answered refusal r .number ≡ 0 → (refusal ≡ 0) × (r .number ≡ 0)

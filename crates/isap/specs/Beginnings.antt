@@ -40,8 +40,8 @@ noJob =
       done = 0;
       place = record { part = 0; call = 0; round = 0 };
       ending = 0;
-      state = replicate 50 0;
-      session = replicate 50 0;
+      state = replicate 64 0;
+      session = replicate 64 0;
     }
 
 unfoldable pub begunOr : (refusal : ℕ) → Job → Begun
@@ -68,8 +68,8 @@ module _ (of : ℕ → Scheme) where
         done = 0;
         place = placed (placeOf (allShapes (of instance) (sealingOf direction) a m) 0);
         ending = 0;
-        state = replicate 50 0;
-        session = replicate 50 0;
+        state = replicate 64 0;
+        session = replicate 64 0;
       }
 
   -- ---- the two beginnings

@@ -39,8 +39,8 @@ pub record Left (n : ℕ) (j k : Job) : Type 0 where
 
 -- and it is zero
 pub record Zeroed (n : ℕ) (j : Job) : Type 0 where
-  pub state : drop n (j .state) ≡ replicate (50 - n) 0
-  pub session : drop n (j .session) ≡ replicate (50 - n) 0
+  pub state : drop n (j .state) ≡ replicate (64 - n) 0
+  pub session : drop n (j .session) ≡ replicate (64 - n) 0
 
 -- what is all zeros is so from any place on
 pub zeros-behind : (i k : ℕ) → i ≤ k → (s : List ℕ) → s ≡ replicate k 0 → drop i s ≡ replicate (k - i) 0
@@ -112,7 +112,7 @@ module _ (of : ℕ → Scheme) (laws : (i : ℕ) → LawfulScheme (of i)) where
   -- ---- a job from a beginning
 
   module _ (j : Job) (assoc text out : List ℕ) (h : Begun of j assoc text out) (keyed : Keyed (of (j .instance)) (inputOf j assoc text))
-      (room : of (j .instance) .n ≤ 50) where
+      (room : of (j .instance) .n ≤ 64) where
     -- after any number of rounds
     pub zeros-beyond : (k : ℕ) → Zeroed (of (j .instance) .n) (at of laws j assoc text out h k)
     unfolding at courseOf following
@@ -126,10 +126,10 @@ module _ (of : ℕ → Scheme) (laws : (i : ℕ) → LawfulScheme (of i)) where
         record {
           state =
               ap (λ (u : Core Machine). drop (s .n) (u .machine .state)) e ∙ steps-leave-state s l x keyed k q (r .state) (r .session)
-              ∙ zeros-behind (s .n) 50 room (j .state) (state-begun of j assoc text out h);
+              ∙ zeros-behind (s .n) 64 room (j .state) (state-begun of j assoc text out h);
           session =
               ap (λ (u : Core Machine). drop (s .n) (u .machine .session)) e ∙ steps-leave-session s l x keyed k q (r .state) (r .session)
-              ∙ zeros-behind (s .n) 50 room (j .session) (session-begun of j assoc text out h);
+              ∙ zeros-behind (s .n) 64 room (j .session) (session-begun of j assoc text out h);
         }
 
     -- after any row of budgets

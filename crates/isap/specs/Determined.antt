@@ -18,13 +18,16 @@ use Rattle.isap.specs.declared.Sliced.{Sliced}
 use Rattle.isap.specs.declared.Answer.{Answer}
 use Rattle.isap.specs.Begun.{or-most, limits-small, tag-small}
 use Rattle.isap.specs.Whole.{outRefusal, wholeRefusal, refusalFor, answered, openedAnswer, sealOf, openOf, packed}
-use Rattle.isap.specs.Statements.{PlansVerify, PlansTotal, BeginsSealing, BeginsOpening, Slices, Seals, Opens, SealsInC, OpensInC}
+use Rattle.isap.specs.Statements.{PlansVerify, PlansSeal, PlansTotal, BeginsSealing, BeginsOpening, Slices, Seals, Opens, SealsInC, OpensInC}
 
 -- ---- equal results
 
 module _ (instance a m : ℕ) where
   pub one-verify-plan : (r r′ : ℕ) → PlansVerify instance a m r → PlansVerify instance a m r′ → r ≡ r′
   one-verify-plan r r′ h k = h ∙ sym k
+
+  pub one-seal-plan : (r r′ : ℕ) → PlansSeal instance a m r → PlansSeal instance a m r′ → r ≡ r′
+  one-seal-plan r r′ h k = h ∙ sym k
 
   pub one-total-plan : (r r′ : ℕ) → PlansTotal instance a m r → PlansTotal instance a m r′ → r ≡ r′
   one-total-plan r r′ h k = h ∙ sym k
@@ -126,10 +129,16 @@ module _ (instance a m : ℕ) where
   plan-small : planOf instance a m .number < 4294967296
   plan-small = omega (arith, plan-within instance a m .number)
 
-  pub verify-number : (r : ℕ) → PlansVerify instance a m r → (r % 4294967296 ≡ planOf instance a m .number) × (r / 4294967296 ≡ planOf instance a m .verify)
-  verify-number r h =
+  -- what C takes apart, whatever the rounds are those of
+  told : (k r : ℕ) → r ≡ packed (planOf instance a m .number) k → (r % 4294967296 ≡ planOf instance a m .number) × (r / 4294967296 ≡ k)
+  told k r h =
       (ap (λ (q : ℕ). q % 4294967296) h ∙ packed-number _ _ plan-small, ap (λ (q : ℕ). q / 4294967296) h ∙ packed-rounds _ _ plan-small)
 
+  pub verify-number : (r : ℕ) → PlansVerify instance a m r → (r % 4294967296 ≡ planOf instance a m .number) × (r / 4294967296 ≡ planOf instance a m .verify)
+  verify-number r h = told (planOf instance a m .verify) r h
+
+  pub seal-number : (r : ℕ) → PlansSeal instance a m r → (r % 4294967296 ≡ planOf instance a m .number) × (r / 4294967296 ≡ planOf instance a m .sealing)
+  seal-number r h = told (planOf instance a m .sealing) r h
+
   pub total-number : (r : ℕ) → PlansTotal instance a m r → (r % 4294967296 ≡ planOf instance a m .number) × (r / 4294967296 ≡ planOf instance a m .total)
-  total-number r h =
-      (ap (λ (q : ℕ). q % 4294967296) h ∙ packed-number _ _ plan-small, ap (λ (q : ℕ). q / 4294967296) h ∙ packed-rounds _ _ plan-small)
+  total-number r h = told (planOf instance a m .total) r h

@@ -22,17 +22,17 @@ pub opening-seals-not : (direction : ℕ) → direction ≡ 2 → sealingOf dire
 opening-seals-not direction d = ne-eqb direction 1 (λ q. omega (arith, d, q))
 
 module _ (of : ℕ → Scheme) (j : Job) (assoc text out : List ℕ) (h : Begun of j assoc text out) where
-  pub state-begun : j .state ≡ replicate 50 0
+  pub state-begun : j .state ≡ replicate 64 0
   unfolding begunJob
   state-begun = ap (λ (y : Job). y .state) (h .isBegun)
 
-  pub session-begun : j .session ≡ replicate 50 0
+  pub session-begun : j .session ≡ replicate 64 0
   unfolding begunJob
   session-begun = ap (λ (y : Job). y .session) (h .isBegun)
 
-  pub begun-ready : of (j .instance) .n ≤ 50 → Ready (of (j .instance)) (inputOf j assoc text) (machineOf j out)
+  pub begun-ready : of (j .instance) .n ≤ 64 → Ready (of (j .instance)) (inputOf j assoc text) (machineOf j out)
   begun-ready room =
-      let w = length-replicate {A = ℕ} 50 0 in
+      let w = length-replicate {A = ℕ} 64 0 in
       record {
         state = omega (arith, room, ap length state-begun ∙ w);
         session = omega (arith, room, ap length session-begun ∙ w);
@@ -40,7 +40,7 @@ module _ (of : ℕ → Scheme) (j : Job) (assoc text out : List ℕ) (h : Begun 
       }
 
 module _ (of : ℕ → Scheme) (laws : (i : ℕ) → LawfulScheme (of i)) (j : Job) (assoc text out : List ℕ) (h : Begun of j assoc text out)
-    (room : of (j .instance) .n ≤ 50) (d : j .direction ≡ 2) (given : Given (of (j .instance)) (inputOf j assoc text)) (tagged : Buffer 16 (j .tag)) where
+    (room : of (j .instance) .n ≤ 64) (d : j .direction ≡ 2) (given : Given (of (j .instance)) (inputOf j assoc text)) (tagged : Buffer 16 (j .tag)) where
   -- what the algorithm gives
   abbrev opened : Opened
   opened = of (j .instance) .unseal (j .key) (j .nonce) assoc text (j .tag)

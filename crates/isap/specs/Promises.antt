@@ -65,7 +65,7 @@ module _ (of : ℕ → Scheme) (laws : (i : ℕ) → LawfulScheme (of i)) where
           slice-at of laws j assoc text out h n budget .1 ∙ ap (λ (k : ℕ). stopped (row (parts c)) k m .out) past,
         )
 
-module _ (of : ℕ → Scheme) (laws : (i : ℕ) → LawfulScheme (of i)) (room : (i : ℕ) → of i .n ≤ 50) where
+module _ (of : ℕ → Scheme) (laws : (i : ℕ) → LawfulScheme (of i)) (room : (i : ℕ) → of i .n ≤ 64) where
   -- ---- slices to the end give what the whole call gives
 
   -- a job begun, and its row of budgets

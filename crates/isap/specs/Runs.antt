@@ -21,7 +21,7 @@ use Rattle.isap.specs.Slices.{numberOf}
 use Rattle.isap.specs.Beginnings.{begunJob}
 use Rattle.isap.specs.Whole.{openedAnswer, openedOut}
 
-module _ (of : ℕ → Scheme) (laws : (i : ℕ) → LawfulScheme (of i)) (fits : (i : ℕ) → of i .n ≤ 50) where
+module _ (of : ℕ → Scheme) (laws : (i : ℕ) → LawfulScheme (of i)) (fits : (i : ℕ) → of i .n ≤ 64) where
   module _ (instance direction : ℕ) (key nonce tag assoc text out : List ℕ)
       (hk : length key ≡ of instance .keyBytes) (hn : length nonce ≡ 16) (long : length out ≡ length text) where
     abbrev s : Scheme
@@ -34,7 +34,7 @@ module _ (of : ℕ → Scheme) (laws : (i : ℕ) → LawfulScheme (of i)) (fits 
     x = record { sealing = eqb direction 1; key = key; nonce = nonce; assoc = assoc; text = text }
 
     abbrev m : Machine
-    m = record { state = replicate 50 0; session = replicate 50 0; out = out; tag = tag }
+    m = record { state = replicate 64 0; session = replicate 64 0; out = out; tag = tag }
 
     abbrev c : Course Machine
     c = courseOf of j assoc text
@@ -48,7 +48,7 @@ module _ (of : ℕ → Scheme) (laws : (i : ℕ) → LawfulScheme (of i)) (fits 
 
     ready : Ready s x m
     ready =
-        let w = length-replicate {A = ℕ} 50 0 in
+        let w = length-replicate {A = ℕ} 64 0 in
         record { state = omega (arith, fits instance, w); session = omega (arith, fits instance, w); out = long }
 
     -- wherever it is stopped

@@ -19,6 +19,9 @@ use Rattle.isap.specs.Whole.{sealOf, sealOut, sealTag, openOf, openOut, 
 abbrev pub PlansVerify : (instance a m : ℕ) → ℕ → Type 0
 PlansVerify instance a m r = r ≡ packed (planOf instance a m .number) (planOf instance a m .verify)
 
+abbrev pub PlansSeal : (instance a m : ℕ) → ℕ → Type 0
+PlansSeal instance a m r = r ≡ packed (planOf instance a m .number) (planOf instance a m .sealing)
+
 abbrev pub PlansTotal : (instance a m : ℕ) → ℕ → Type 0
 PlansTotal instance a m r = r ≡ packed (planOf instance a m .number) (planOf instance a m .total)
 

@@ -78,8 +78,8 @@ fn begun_job(
     let place = plan::place_after(instance, sealing, a, m, 0);
     let key = sixteen(key);
     let nonce = sixteen(nonce);
-    let state = [0u8; 50];
-    let session = [0u8; 50];
+    let state = [0u8; 64];
+    let session = [0u8; 64];
     Job {
         instance,
         direction,
@@ -103,8 +103,8 @@ fn refused(number: u32) -> Begun
     let key = [0u8; 16];
     let nonce = [0u8; 16];
     let tag = [0u8; 16];
-    let state = [0u8; 50];
-    let session = [0u8; 50];
+    let state = [0u8; 64];
+    let session = [0u8; 64];
     let place = Place {
         part: 0,
         call: 0,

@@ -2,7 +2,7 @@
 ghost use mathlib.Core.Path.{_≡_};
 ghost use Rattle.instances.specs.Schemes.{schemeOf};
 ghost use Rattle.isap.specs.Whole.{packed};
-ghost use Rattle.isap.specs.Statements.{PlansVerify, PlansTotal, SealsInC, OpensInC};
+ghost use Rattle.isap.specs.Statements.{PlansVerify, PlansSeal, PlansTotal, SealsInC, OpensInC};
 use crate::whole;
 
 // The number in the low 32 bits, the rounds in the high 32.
@@ -53,7 +53,16 @@ pub extern "C" fn isap_plan_verify(instance: u32, assoc_len: u32, text_len: u32)
     pack(planned.number, planned.verify)
 }
 
-// The rounds of a sealing, and of an opening with a right tag.
+// The rounds of a sealing.
+#[no_mangle]
+pub extern "C" fn isap_plan_seal(instance: u32, assoc_len: u32, text_len: u32) -> u64
+    ensures { λ r. ⌜ PlansSeal instance «assoc_len» «text_len» r ⌝ }
+{
+    let planned = plan::plan(instance, assoc_len, text_len);
+    pack(planned.number, planned.sealing)
+}
+
+// The rounds of an opening with a right tag.
 #[no_mangle]
 pub extern "C" fn isap_plan_total(instance: u32, assoc_len: u32, text_len: u32) -> u64
     ensures { λ r. ⌜ PlansTotal instance «assoc_len» «text_len» r ⌝ }

@@ -33,7 +33,7 @@ fn row_calls(job: Job, left: u32) -> u32
 }
 
 // The state after these calls.
-fn state_after(job: Job, assoc: &[u8], text: &[u8], out: &mut [u8], calls: u32) -> [u8; 50]
+fn state_after(job: Job, assoc: &[u8], text: &[u8], out: &mut [u8], calls: u32) -> [u8; 64]
     requires { ⌜ (Fresh schemeOf job (now assoc) (now text) (now out)) × (Many schemeOf job calls) ⌝ }
     ensures { λ r. ⌜ Went schemeOf job calls (now (assoc .entry)) (now (text .entry)) (now (out .entry)) r (now (out .exit)) ⌝ }
 {

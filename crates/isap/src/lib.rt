@@ -1,4 +1,4 @@
-// ISAP for a station: jobs begun and sliced by budgets of permutation rounds, and whole calls.
+// Sealing for a station, by ISAP or by Spook: jobs begun and sliced by budgets of permutation rounds, and whole calls.
 mod beginnings;
 mod exports;
 mod further;
@@ -10,6 +10,7 @@ mod whole;
 pub use beginnings::begin_open;
 pub use beginnings::begin_seal;
 pub use exports::isap_open;
+pub use exports::isap_plan_seal;
 pub use exports::isap_plan_total;
 pub use exports::isap_plan_verify;
 pub use exports::isap_seal;
@@ -37,8 +38,8 @@ pub struct Job {
     pub place: Place,
     // 0 not ended, 1 well, 2 by a wrong tag
     pub ending: u32,
-    pub state: [u8; 50],
-    pub session: [u8; 50],
+    pub state: [u8; 64],
+    pub session: [u8; 64],
 }
 
 // What a beginning answers: document 01's number, the rounds it did, which are none, and the record.

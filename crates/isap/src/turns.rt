@@ -7,8 +7,8 @@ ghost use Rattle.instances.specs.Limits.{mostRounds};
 ghost use Rattle.isap.specs.Turns.{Here, Ready, Meets, Left, Ends};
 ghost use Rattle.isap.specs.Sofar.{Timed, Turned};
 use crate::Job;
-use calls::Two;
 use plan::Place;
+use strings::Two;
 
 // The state and the session bytes that the next round meets: a call's first round comes after what enters the call.
 fn entered(job: Job, assoc: &[u8], text: &[u8], out: &[u8]) -> Two
@@ -44,7 +44,7 @@ fn entered(job: Job, assoc: &[u8], text: &[u8], out: &[u8]) -> Two
 fn left_behind(
     job: Job,
     last: bool,
-    state: [u8; 50],
+    state: [u8; 64],
     assoc: &[u8],
     text: &[u8],
     out: &mut [u8],
@@ -68,8 +68,8 @@ fn ending_after(
     front: u32,
     back: u32,
     tag: [u8; 16],
-    state: [u8; 50],
-    session: [u8; 50],
+    state: [u8; 64],
+    session: [u8; 64],
 ) -> u32
     requires { ⌜ front + back ≤ mostRounds ⌝ }
     ensures { λ r. ⌜ Ends schemeOf job done front back tag state session r ⌝ }
@@ -97,8 +97,8 @@ pub fn changed(
     done: u32,
     place: Place,
     ending: u32,
-    state: [u8; 50],
-    session: [u8; 50],
+    state: [u8; 64],
+    session: [u8; 64],
 ) -> Job
     ensures { λ r. ⌜ r ≡ changedTo job tag done place ending state session ⌝ }
 {

@@ -102,7 +102,7 @@ module _ (of : ℕ → Scheme) (laws : (i : ℕ) → LawfulScheme (of i)) (insta
           text = omega (arith, can .textLimit);
         })
 
-    module _ (room : (i : ℕ) → of i .n ≤ 50) (keys : Bytes key) (texts : Bytes text) (buffer : List ℕ) (long : length buffer ≡ length text) where
+    module _ (room : (i : ℕ) → of i .n ≤ 64) (keys : Bytes key) (texts : Bytes text) (buffer : List ℕ) (long : length buffer ≡ length text) where
       abbrev nonce : List ℕ
       nonce = nonceOf station (last + 1)
 

@@ -33,8 +33,8 @@ returns c =
       done = 0;
       place = place i;
       ending = 0;
-      state = replicate 50 0;
-      session = replicate 50 0;
+      state = replicate 64 0;
+      session = replicate 64 0;
     }
 
 pub begun-job-spec : {M : Type 1} → statement M

@@ -38,7 +38,8 @@ back-rounds-requires c κs =
     let i = c .before .before in
     let r = i .before in
     let a = r .before .before .before .before .before .args in
-    unrefused (a .job) (a .assoc .now) (a .text .now) (a .out .now) (sym (r .refusal .ensures) ∙ i .if1 .left) .textLimit
+    let f = unrefused (a .job) (a .assoc .now) (a .text .now) (a .out .now) (sym (r .refusal .ensures) ∙ i .if1 .left) in
+    (f .assocLimit, f .textLimit)
 
 loop-holds : tie.Need-loop-holds Inv-loop μ-loop
 loop-holds c =

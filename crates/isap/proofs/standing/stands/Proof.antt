@@ -57,7 +57,7 @@ returns c =
 back-rounds-requires : tie.Need-back-rounds-requires
 back-rounds-requires c κs =
     let j = c .before .before .before .args .job in
-    lengths-fit (j .instance) (j .direction) (j .assoc) (j .text) (sym (c .before .before .limits-right .ensures) ∙ not-false _ (c .before .if1 .left)) .1
+    lengths-fit (j .instance) (j .direction) (j .assoc) (j .text) (sym (c .before .before .limits-right .ensures) ∙ not-false _ (c .before .if1 .left))
 
 front-rounds-requires : tie.Need-front-rounds-requires
 front-rounds-requires c κs =
