@@ -1,5 +1,5 @@
-// Empty heartbeats: with neither associated data nor text there is nothing to write, and yet both re-keyings are done. The output lent is
-// no bytes of a room of one.
+// Empty heartbeats: with neither associated data nor text there is nothing to write, and yet both of ISAP's re-keyings are done; Spook's
+// opening has nothing after its decision then, and ends with it. The output lent is no bytes of a room of one.
 use crate::key;
 use crate::nonce;
 use crate::say;

@@ -308,4 +308,5 @@ fn main() {
     heartbeat(2);
     heartbeat(3);
     heartbeat(4);
+    heartbeat(5);
 }

@@ -61,7 +61,7 @@ pub fn case(sliced: bool) -> Went {
     let room = filled(reading::eight());
     let begun = begun(direction, instance, room);
     let number = reading::byte();
-    let mut bytes = [0u8; 184];
+    let mut bytes = [0u8; 212];
     reading::string(&mut bytes);
     let job = begun.job;
     let numbered = verdict::then(verdict::no_difference(), begun.number == number, NUMBER, 0);

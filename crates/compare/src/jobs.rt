@@ -94,7 +94,7 @@ fn one_slice(
     text: &[u8; 4200],
     out: &mut [u8; 4200],
     written: &mut [u8; 4200],
-    bytes: &mut [u8; 184],
+    bytes: &mut [u8; 212],
 ) -> Went {
     let cut = read_cut();
     changes(&mut bytes[..], true);
@@ -115,7 +115,7 @@ fn one_slice(
     }
 }
 
-pub fn slices(start: Went, room: Room, record: [u8; 184]) -> Went {
+pub fn slices(start: Went, room: Room, record: [u8; 212]) -> Went {
     let assoc = room.assoc;
     let text = room.text;
     let mut out = room.out;
@@ -133,7 +133,7 @@ pub fn slices(start: Went, room: Room, record: [u8; 184]) -> Went {
 // A forged record and its slices.
 pub fn forged() -> Went {
     let room = filled(reading::eight());
-    let mut bytes = [0u8; 184];
+    let mut bytes = [0u8; 212];
     reading::string(&mut bytes);
     let job = record(&bytes);
     let start = Went {

@@ -192,7 +192,8 @@ pub fn case() -> Verdict {
     let assoc = reading::pair();
     let text = reading::pair();
     let room = filled(reading::eight());
-    let rounds = reading::pair();
+    let sealing = reading::pair();
+    let opening = reading::pair();
     let d = read_harm();
     let tag = sixteen_bytes();
     let m = Message {
@@ -202,8 +203,8 @@ pub fn case() -> Verdict {
     };
     let plain = room.text;
     let mut out = room.out;
-    let first_call = sealed(m, &mut out, rounds);
+    let first_call = sealed(m, &mut out, sealing);
     let r = received(m, out);
-    let second_call = opened(first_call, r, plain, rounds);
+    let second_call = opened(first_call, r, plain, opening);
     opened_damaged(second_call, damaged(r, d), d.rounds)
 }

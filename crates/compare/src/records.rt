@@ -1,4 +1,4 @@
-// A record from its 184 bytes in the case file, and two records compared.
+// A record from its 212 bytes in the case file, and two records compared.
 ghost use Prim.Native.Nat.{_+_, _≤_};
 use case_file::strings::same;
 use isap::Job;
@@ -9,14 +9,14 @@ fn wide(b: u8) -> u32 {
 }
 
 // The four bytes at a place, the first most significant.
-fn number(s: &[u8; 184], at: usize) -> u32
-    requires { ⌜ at + 4 ≤ 184 ⌝ }
+fn number(s: &[u8; 212], at: usize) -> u32
+    requires { ⌜ at + 4 ≤ 212 ⌝ }
 {
     (wide(s[at]) << 24) | (wide(s[at + 1]) << 16) | (wide(s[at + 2]) << 8) | wide(s[at + 3])
 }
 
-fn sixteen(s: &[u8; 184], at: usize) -> [u8; 16]
-    requires { ⌜ at + 16 ≤ 184 ⌝ }
+fn sixteen(s: &[u8; 212], at: usize) -> [u8; 16]
+    requires { ⌜ at + 16 ≤ 212 ⌝ }
 {
     let mut t = [0u8; 16];
     let mut i = 0;
@@ -27,12 +27,12 @@ fn sixteen(s: &[u8; 184], at: usize) -> [u8; 16]
     t
 }
 
-fn fifty(s: &[u8; 184], at: usize) -> [u8; 50]
-    requires { ⌜ at + 50 ≤ 184 ⌝ }
+fn sixty_four(s: &[u8; 212], at: usize) -> [u8; 64]
+    requires { ⌜ at + 64 ≤ 212 ⌝ }
 {
-    let mut t = [0u8; 50];
+    let mut t = [0u8; 64];
     let mut i = 0;
-    while i < 50 {
+    while i < 64 {
         t[i] = s[at + i];
         i += 1;
     }
@@ -40,7 +40,7 @@ fn fifty(s: &[u8; 184], at: usize) -> [u8; 50]
 }
 
 // Four numbers, key, nonce and tag, five numbers, state and session.
-pub fn record(s: &[u8; 184]) -> Job {
+pub fn record(s: &[u8; 212]) -> Job {
     let key = sixteen(s, 16);
     let nonce = sixteen(s, 32);
     let tag = sixteen(s, 48);
@@ -49,8 +49,8 @@ pub fn record(s: &[u8; 184]) -> Job {
         call: number(s, 72),
         round: number(s, 76),
     };
-    let state = fifty(s, 84);
-    let session = fifty(s, 134);
+    let state = sixty_four(s, 84);
+    let session = sixty_four(s, 148);
     Job {
         instance: number(s, 0),
         direction: number(s, 4),
@@ -118,7 +118,7 @@ fn same_given(a: Job, b: Job) -> bool {
     same_sixteen(tag, other_tag)
 }
 
-fn same_fifty(a: [u8; 50], b: [u8; 50]) -> bool {
+fn same_sixty_four(a: [u8; 64], b: [u8; 64]) -> bool {
     same(&a, &b)
 }
 
@@ -127,14 +127,14 @@ fn same_states(a: Job, b: Job) -> bool {
     let session = a.session;
     let other_state = b.state;
     let other_session = b.session;
-    if !same_fifty(state, other_state) {
+    if !same_sixty_four(state, other_state) {
         return false;
     }
-    same_fifty(session, other_session)
+    same_sixty_four(session, other_session)
 }
 
 // Every field of a record is what the case file has.
-pub fn same_record(job: Job, bytes: &[u8; 184]) -> bool {
+pub fn same_record(job: Job, bytes: &[u8; 212]) -> bool {
     let expected = record(bytes);
     if !same_job(job, expected) {
         return false;

@@ -52,7 +52,7 @@ pub fn sealing(instance: u32, c: Case) -> Trial
         text_len: c.text_len,
         tag,
         number: 0,
-        rounds: planned.total,
+        rounds: planned.sealing,
         out,
     }
 }
@@ -63,7 +63,9 @@ pub fn opening(instance: u32, c: Case) -> Trial
     let mut t = sealing(instance, c);
     let text = c.sealed;
     let out = c.text;
+    let planned = plan::plan(instance, c.assoc_len, c.text_len);
     t.opening = true;
+    t.rounds = planned.total;
     t.text = text;
     t.out = out;
     t

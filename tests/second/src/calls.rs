@@ -1,5 +1,6 @@
 //! The library's calls with document 01's numbers: beginnings, slices, and the refusals of whole calls.
 
+use crate::instances::ALL;
 use crate::record::{Record, UNENDED, WELL};
 use crate::steps::{places, standing, Stepped};
 
@@ -24,7 +25,7 @@ pub struct Lengths {
 /// The first refusal of 1 to 7 that applies.
 pub fn refusal(instance: u32, l: &Lengths) -> Option<u32> {
     let applies = [
-        !(1..=4).contains(&instance),
+        !ALL.contains(&instance),
         l.key != 16,
         l.nonce != 16,
         l.assoc > 256,

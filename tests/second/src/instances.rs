@@ -1,6 +1,23 @@
-//! The four instances (document 001, Tables 2.2 and 2.3).
+//! The instances: the four of ISAP (document 001, Tables 2.2 and 2.3), and Spook, which is instance 5 (`spook`).
 
+use crate::record::Place;
+use crate::spook::{self, SPOOK};
 use crate::{ascon, keccak};
+
+/// Every instance that there is.
+pub const ALL: [u32; 5] = [1, 2, 3, 4, SPOOK];
+
+/// The bytes of a block of an instance.
+pub fn block(number: u32) -> usize {
+    if number == SPOOK {
+        spook::BLOCK
+    } else {
+        instance(number).block
+    }
+}
+
+/// The place of a job of ISAP that has no round left.
+pub const ISAP_END: Place = [11, 0, 0];
 
 /// Bytes of a state and of a block, the rounds of the calls pH, pB, pE and pK, and the permutation.
 pub struct Instance {
@@ -44,7 +61,7 @@ static INSTANCES: [Instance; 4] = [
     K_128,
 ];
 
-/// Instance `number`, which is 1 to 4.
+/// Instance `number` of ISAP, which is 1 to 4.
 pub fn instance(number: u32) -> &'static Instance {
     &INSTANCES[number as usize - 1]
 }

@@ -1,9 +1,11 @@
 //! The second program: what the library computes, computed again from the papers, sharing nothing with the library's code.
 //! Slow and plain on purpose. It writes the inputs and the answers that the library's test programs are held to.
 
+mod answers;
 mod ascon;
 mod calls;
 mod cases;
+mod checks;
 mod filling;
 mod instances;
 mod keccak;
@@ -17,6 +19,7 @@ mod permutations;
 mod plan;
 mod record;
 mod sealed;
+mod spook;
 mod steps;
 mod threads;
 mod written;
@@ -24,7 +27,7 @@ mod written;
 use std::io::Write;
 
 const USAGE: &str = "usage: second permutations states|answers, plan rows|many requests|lines, cases file|summary, \
-    parcels cases file|summary, known FOLDER, sealed FILE, or parcels FILE";
+    parcels cases file|summary, answers, checks, known FOLDER, sealed FILE, or parcels FILE";
 
 /// A report; where it tells a failure it goes to the error output and the program fails.
 fn passed((report, failed): (String, bool)) -> String {
@@ -48,6 +51,8 @@ fn main() {
         ["cases", "file"] => cases::file(),
         ["cases", "summary"] => cases::summary().into_bytes(),
         ["known", folder] => passed(known::report(folder)).into_bytes(),
+        ["answers"] => answers::file().into_bytes(),
+        ["checks"] => passed(checks::report()).into_bytes(),
         ["parcels", "cases", "file"] => parcels::file(),
         ["parcels", "cases", "summary"] => parcels::summary().into_bytes(),
         ["sealed", file] => passed(lines::report(file, "sealed", sealed::agrees)).into_bytes(),

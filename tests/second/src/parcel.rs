@@ -3,6 +3,7 @@
 //! six zero bytes.
 
 use crate::calls::{number_of, refusal, Lengths};
+use crate::instances::ALL;
 use crate::known::sixteen;
 use crate::paper::{ended, Given};
 use crate::record::{OPENING, SEALING};
@@ -36,7 +37,7 @@ pub struct Built {
 }
 
 fn is_known(instance: u32) -> bool {
-    (1..=4).contains(&instance)
+    ALL.contains(&instance)
 }
 
 impl Fields {
@@ -49,7 +50,7 @@ impl Fields {
         sixteen(&[&self.station.to_be_bytes()[..], &self.counter.to_be_bytes(), &[0; 6]].concat())
     }
 
-    fn given(&self, key: &[u8], assoc: &[u8], text: &[u8]) -> Given {
+    pub fn given(&self, key: &[u8], assoc: &[u8], text: &[u8]) -> Given {
         Given { instance: self.instance, key: sixteen(key), nonce: self.nonce(), assoc: assoc.to_vec(), text: text.to_vec() }
     }
 

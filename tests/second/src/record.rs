@@ -11,8 +11,8 @@ pub const WRONG_TAG: u32 = 2;
 /// Part, call of it and round of that call, of the round that comes next.
 pub type Place = [u32; 3];
 
-/// The place of a job that has no round left.
-pub const END: Place = [11, 0, 0];
+/// Bytes of state and of session, for the widest permutation; an instance uses the first of them that it needs.
+pub const STATE: usize = 64;
 
 #[derive(Clone, PartialEq, Debug)]
 pub struct Record {
@@ -26,8 +26,8 @@ pub struct Record {
     pub done: u32,
     pub place: Place,
     pub ending: u32,
-    pub state: [u8; 50],
-    pub session: [u8; 50],
+    pub state: [u8; STATE],
+    pub session: [u8; STATE],
 }
 
 impl Record {
@@ -44,12 +44,12 @@ impl Record {
             done: 0,
             place: [0; 3],
             ending: UNENDED,
-            state: [0; 50],
-            session: [0; 50],
+            state: [0; STATE],
+            session: [0; STATE],
         }
     }
 
-    /// 184 bytes: the fields in order, a number as four bytes, the first most significant.
+    /// 212 bytes: the fields in order, a number as four bytes, the first most significant.
     pub fn bytes(&self) -> Vec<u8> {
         let [part, call, round] = self.place;
         let numbers = |all: &[u32]| -> Vec<u8> { all.iter().flat_map(|number| number.to_be_bytes()).collect() };

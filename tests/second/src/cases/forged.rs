@@ -1,14 +1,16 @@
 //! Forged records: such as can stand, with any bytes where bytes may be anything, and such as cannot, have ended, or are lent other
-//! lengths than their own. A case: seed (8 bytes), the record (184), then its slices. Its kind goes by what the first slice answers.
+//! lengths than their own. A case: seed (8 bytes), the record (212), then its slices. Its kind goes by what the first slice answers.
 
 use super::room::Room;
 use super::slices::{own_lengths, Cut, Sliced};
 use super::{one_of, up_to, Kind, Written};
-use crate::calls::{slice, CANNOT_STAND, HAS_ENDED, OTHER_LENGTH};
-use crate::instances::instance;
+use crate::calls::{slice, CANNOT_STAND, HAS_ENDED, NOT_ENDED, OTHER_LENGTH};
+use crate::instances::{block, ISAP_END};
 use crate::numbers::Numbers;
-use crate::plan::{encryption, verification};
-use crate::record::{Record, END, OPENING, SEALING, UNENDED, WELL, WRONG_TAG};
+use crate::paper::{accepted_tag, closing};
+use crate::plan::rounds;
+use crate::record::{Place, Record, OPENING, SEALING, UNENDED, WELL, WRONG_TAG};
+use crate::spook::{clyde, SPOOK};
 use crate::steps::places;
 
 const STANDING: usize = 40;
@@ -20,9 +22,8 @@ fn any_bytes<const N: usize>(numbers: &mut Numbers) -> [u8; N] {
 
 /// The verification's rounds of a record, and its rounds in all.
 fn rounds_of(r: &Record) -> (usize, usize) {
-    let i = instance(r.instance);
-    let v = verification(i, r.assoc as usize, r.text as usize);
-    (v, v + encryption(i, r.text as usize))
+    let rounds = rounds(r.instance, r.assoc as usize, r.text as usize);
+    (rounds.verify, rounds.of(r.direction))
 }
 
 /// Moves a record to a number of rounds done, unended unless these are all.
@@ -34,7 +35,7 @@ fn move_to(r: &mut Record, done: usize) {
 
 /// A record of any bytes, not yet begun.
 fn any_record(numbers: &mut Numbers, number: u32, direction: u32) -> Record {
-    let b = instance(number).block;
+    let b = block(number);
     let text = one_of(numbers, &[0, 1, b - 1, b, b + 1, 2 * b, 3 * b + 2]) as u32;
     let any = up_to(numbers, 256);
     let assoc = one_of(numbers, &[0, 1, b, b + 5, 3 * b, any]) as u32;
@@ -69,7 +70,8 @@ fn unended(numbers: &mut Numbers, number: u32, direction: u32) -> Record {
     record
 }
 
-fn write(file: &mut Written, seed: u64, record: Record, cuts: &[Cut]) {
+/// Writes a record and its slices; the number of the first.
+fn write(file: &mut Written, seed: u64, record: Record, cuts: &[Cut]) -> u32 {
     let mut rest = Written::default();
     let mut sliced = Sliced { record: record.clone(), room: Room::of(seed) };
     let numbers: Vec<u32> = cuts.iter().map(|cut| sliced.write(&mut rest, cut)).collect();
@@ -84,6 +86,7 @@ fn write(file: &mut Written, seed: u64, record: Record, cuts: &[Cut]) {
     file.bytes.extend(record.bytes());
     file.pair(cuts.len());
     file.append(rest);
+    numbers[0]
 }
 
 fn budgets(numbers: &mut Numbers, record: &Record) -> Vec<Cut> {
@@ -95,16 +98,30 @@ fn budgets(numbers: &mut Numbers, record: &Record) -> Vec<Cut> {
     cuts.collect()
 }
 
+/// Spook's closing call does not look at the tag again after its first round: in the midst of it the state decides.
+fn accepting_in_the_closing_call(decided: &Record, record: Record, rounds: usize) -> Record {
+    let (keyed, _) = closing(decided.key, &decided.session);
+    let mut state = accepted_tag(decided);
+    (0..rounds).for_each(|k| keyed.round_back(&mut state, k));
+    let mut record = record;
+    record.state[..16].copy_from_slice(&state);
+    record
+}
+
 /// An opening that will accept: its tag is the one that its own state leads to at the decision.
 fn accepting(seed: u64, record: Record) -> Record {
     let (v, _) = rounds_of(&record);
-    if record.direction != OPENING || record.done as usize >= v {
+    let done = record.done as usize;
+    if record.direction != OPENING || done >= v {
         return record;
     }
     let (mut at_v, mut room) = (record.clone(), Room::of(seed));
     let [assoc, text, out] = own_lengths(&record);
-    slice(&mut at_v, &room.assoc[..assoc], &room.text[..text], &mut room.out[..out], v as u32 - record.done);
-    Record { tag: at_v.state[..16].try_into().expect("sixteen bytes"), ..record }
+    slice(&mut at_v, &room.assoc[..assoc], &room.text[..text], &mut room.out[..out], (v - done) as u32);
+    if record.instance == SPOOK && done + clyde::ROUNDS > v {
+        return accepting_in_the_closing_call(&at_v, record, done + clyde::ROUNDS - v);
+    }
+    Record { tag: accepted_tag(&at_v), ..record }
 }
 
 fn write_standing(file: &mut Written, numbers: &mut Numbers, number: u32, direction: u32) {
@@ -117,7 +134,7 @@ fn write_standing(file: &mut Written, numbers: &mut Numbers, number: u32, direct
     }
 }
 
-/// Openings of an empty text past the decision, of which nothing but the re-keying is left.
+/// Openings of ISAP of an empty text past the decision, of which nothing but the re-keying is left.
 fn write_rekeying(file: &mut Written, numbers: &mut Numbers, number: u32) {
     let mut record = Record { text: 0, ..any_record(numbers, number, OPENING) };
     let (v, total) = rounds_of(&record);
@@ -133,12 +150,12 @@ type Damage = fn(&mut Record);
 
 const DAMAGES: [Damage; 36] = [
     // These four may leave a record that stands; then it is one more of those.
-    |r| r.instance = r.instance % 4 + 1,
+    |r| r.instance = r.instance % 5 + 1,
     |r| r.direction = SEALING + OPENING - r.direction,
     |r| r.assoc ^= 1,
     |r| r.text ^= 1,
     |r| r.instance = 0,
-    |r| r.instance = 5,
+    |r| r.instance = 6,
     |r| r.instance = u32::MAX,
     |r| r.direction = 0,
     |r| r.direction = 3,
@@ -182,28 +199,46 @@ const DAMAGES: [Damage; 36] = [
     },
     // refused past the decision; a sealing is never refused
     |r| {
+        r.text = r.text.max(1);
         let (v, _) = rounds_of(r);
         let past = (r.direction == OPENING) as usize;
         move_to(r, v + past);
         r.ending = WRONG_TAG;
     },
-    // of an empty text, ended well after V rounds: an opening has its re-keying still to do, a sealing the rest of its MAC
+    // of an empty text, ended well after V rounds: ISAP's opening has its re-keying still to do, its sealing the rest of its MAC; a job of
+    // Spook has ended there
     |r| {
         r.text = 0;
         move_to(r, rounds_of(r).0);
         r.ending = WELL;
     },
-    // the same at the end's place, where an opening was before an empty text was re-keyed for
+    // the same at the end's place of ISAP, where an opening was before an empty text was re-keyed for
     |r| {
         r.text = 0;
         move_to(r, rounds_of(r).0);
         r.ending = WELL;
-        r.place = END;
+        r.place = ISAP_END;
     },
 ];
 
-fn write_not_standing(file: &mut Written, numbers: &mut Numbers, number: u32, direction: u32) {
-    for damage in DAMAGES.iter().cycle().take(EACH_DAMAGE * DAMAGES.len()) {
+/// The same for Spook's own second walk.
+const SPOOK_DAMAGES: [Damage; 2] = [
+    // in a walk that a sealing and an empty text do not have
+    |r| {
+        r.text *= (r.direction == SEALING) as u32;
+        r.done = rounds_of(r).0 as u32 + 1;
+        r.place = [5, 0, 1];
+    },
+    // in a call after the last block
+    |r| {
+        r.text = r.text.max(1);
+        r.done = rounds_of(r).1 as u32;
+        r.place = [8, (r.text - 1) / block(SPOOK) as u32, 0];
+    },
+];
+
+fn write_damaged(file: &mut Written, numbers: &mut Numbers, number: u32, direction: u32, damages: &[Damage]) {
+    for damage in damages.iter().cycle().take(EACH_DAMAGE * damages.len()) {
         let mut record = unended(numbers, number, direction);
         let lent = own_lengths(&record);
         damage(&mut record);
@@ -245,16 +280,76 @@ fn write_other_lengths(file: &mut Written, numbers: &mut Numbers, number: u32, d
     }
 }
 
+/// Spook's places behind the closing call, and of an opening that has no round left.
+const CLOSED: Place = [5, 0, 0];
+const OPENED: Place = [9, 0, 0];
+
+/// What a slice answers to a record of Spook at one of these places: 9 but for a sealing's end, an opening's end, and an opening at V.
+fn answer_at_an_end(r: &Record) -> u32 {
+    let all = rounds(SPOOK, r.assoc as usize, r.text as usize);
+    let (at_v, at_end) = (r.done as usize == all.verify, r.done as usize == all.opening);
+    match (r.direction, r.place, r.ending) {
+        (SEALING, CLOSED, WELL) if at_v => HAS_ENDED,
+        (OPENING, OPENED, WELL) if at_end => HAS_ENDED,
+        (OPENING, OPENED, WRONG_TAG) if at_v && r.text == 0 => HAS_ENDED,
+        (OPENING, CLOSED, WRONG_TAG) if at_v && r.text > 0 => HAS_ENDED,
+        (OPENING, CLOSED, UNENDED) if at_v && r.text > 0 => NOT_ENDED,
+        _ => CANNOT_STAND,
+    }
+}
+
+/// Records of Spook after either direction's rounds, behind either last call, with each ending.
+fn write_ends(file: &mut Written, numbers: &mut Numbers, direction: u32, text: u32) {
+    for place in [CLOSED, OPENED] {
+        for ending in [UNENDED, WELL, WRONG_TAG] {
+            let record = Record { text, place, ending, ..any_record(numbers, SPOOK, direction) };
+            let all = rounds(SPOOK, record.assoc as usize, text as usize);
+            for done in [all.sealing, all.opening] {
+                let record = Record { done: done as u32, ..record.clone() };
+                let (expected, lent) = (answer_at_an_end(&record), own_lengths(&record));
+                let number = write(file, numbers.next(), record, &[Cut { budget: 1, lent }]);
+                assert!(number == expected, "each direction has its own end");
+            }
+        }
+    }
+}
+
+/// Openings of Spook before the round that decides, which miss by a bit of each byte.
+fn write_misses(file: &mut Written, numbers: &mut Numbers) {
+    for at in 0..16 {
+        let seed = numbers.next();
+        let mut record = any_record(numbers, SPOOK, OPENING);
+        let (v, _) = rounds_of(&record);
+        move_to(&mut record, v - 1);
+        let mut record = accepting(seed, record);
+        record.session[at] ^= 1 << up_to(numbers, 7);
+        let cuts = [1, u32::MAX].map(|budget| Cut { budget, lent: own_lengths(&record) });
+        write(file, seed, record, &cuts);
+    }
+}
+
+fn write_spook(file: &mut Written, numbers: &mut Numbers) {
+    for direction in [SEALING, OPENING] {
+        write_damaged(file, numbers, SPOOK, direction, &SPOOK_DAMAGES);
+        [0, 1, 65].iter().for_each(|text| write_ends(file, numbers, direction, *text));
+    }
+    write_misses(file, numbers);
+}
+
 pub fn of_instance(number: u32) -> Written {
     let mut file = Written::default();
     let mut numbers = Numbers::new(400 + number as u64);
     for direction in [SEALING, OPENING] {
         write_standing(&mut file, &mut numbers, number, direction);
-        write_not_standing(&mut file, &mut numbers, number, direction);
+        write_damaged(&mut file, &mut numbers, number, direction, &DAMAGES);
         write_ended(&mut file, &mut numbers, number, direction);
         write_other_lengths(&mut file, &mut numbers, number, direction);
     }
-    write_rekeying(&mut file, &mut numbers, number);
+    if number == SPOOK {
+        write_spook(&mut file, &mut numbers);
+    } else {
+        write_rekeying(&mut file, &mut numbers, number);
+    }
     write(&mut file, numbers.next(), Record::zeros(), &[Cut { budget: 1, lent: [0, 0, 0] }]);
     file
 }

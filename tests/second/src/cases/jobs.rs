@@ -6,11 +6,12 @@ use super::room::Room;
 use super::slices::{own_lengths, Cut, Sliced};
 use super::{one_of, up_to, Kind, Written};
 use crate::calls::{begun, Lengths, NOT_ENDED};
-use crate::instances::instance;
+use crate::instances::{block, instance};
 use crate::numbers::Numbers;
-use crate::paper::{ended, noted, Given, Noted};
-use crate::plan::{encryption, verification};
+use crate::paper::{accepted_tag, closing, decided, ended, noted, Given, Noted};
+use crate::plan::rounds;
 use crate::record::{OPENING, SEALING};
+use crate::spook::SPOOK;
 use crate::steps::places;
 
 const RANDOM_JOBS: usize = 8;
@@ -39,17 +40,18 @@ fn direction(kind: Kind) -> u32 {
     }
 }
 
+fn any_bit(numbers: &mut Numbers) -> u8 {
+    1 << up_to(numbers, 7)
+}
+
 /// The tag that an opening receives: the right one, or that with one bit changed.
 fn received(numbers: &mut Numbers, kind: Kind, given: &Given) -> [u8; 16] {
     if matches!(kind, Kind::Sealing) {
         return [0; 16];
     }
-    // In an opening with any tag the recomputed one is what stands at the front of the state after the last round of V.
-    let v = verification(instance(given.instance), given.assoc.len(), given.text.len());
-    let at_v = noted(given, OPENING, [0; 16], &given.text, &[v]).remove(0);
-    let mut tag: [u8; 16] = at_v.record.state[..16].try_into().expect("sixteen bytes");
+    let mut tag = accepted_tag(&decided(given));
     if matches!(kind, Kind::WrongTag) {
-        tag[up_to(numbers, 15)] ^= 1 << up_to(numbers, 7);
+        tag[up_to(numbers, 15)] ^= any_bit(numbers);
     }
     tag
 }
@@ -60,9 +62,8 @@ fn job(numbers: &mut Numbers, kind: Kind, number: u32, assoc: usize, text: usize
     let (data, bytes) = (room.assoc[..assoc].to_vec(), room.text[..text].to_vec());
     let given = Given { instance: number, key: room.key16(), nonce: room.nonce16(), assoc: data, text: bytes };
     let tag = received(numbers, kind, &given);
-    let v = verification(instance(number), assoc, text);
-    let e = encryption(instance(number), text);
-    let rounds = if matches!(kind, Kind::WrongTag) { v } else { v + e };
+    let all = rounds(number, assoc, text);
+    let rounds = if matches!(kind, Kind::WrongTag) { all.verify } else { all.of(direction(kind)) };
     Job { kind, given, tag, seed, room, rounds }
 }
 
@@ -151,7 +152,7 @@ fn write_edges(file: &mut Written, numbers: &mut Numbers, kind: Kind, number: u3
 }
 
 fn write_every_round(file: &mut Written, numbers: &mut Numbers, kind: Kind, number: u32) {
-    let b = instance(number).block;
+    let b = block(number);
     let job = job(numbers, kind, number, b, b + 1);
     let stops: Vec<usize> = (0..job.rounds).collect();
     write(file, &job, &stopping_at(job.rounds, &stops));
@@ -163,14 +164,41 @@ fn write_random(file: &mut Written, numbers: &mut Numbers, kind: Kind, number: u
     write(file, &job, &budgets);
 }
 
+/// Openings of Spook that miss by a bit of one byte, of each: of the tag, and of what its inverse must give.
+fn write_misses(file: &mut Written, numbers: &mut Numbers) {
+    for at in 0..16 {
+        let mut job = job(numbers, Kind::WrongTag, SPOOK, 2 * at, 33 - 2 * at);
+        let decided = decided(&job.given);
+        let (keyed, mut required) = closing(decided.key, &decided.session);
+        let mut tag = keyed.encrypted(required);
+        tag[at] ^= any_bit(numbers);
+        required[at] ^= any_bit(numbers);
+        for tag in [tag, keyed.encrypted(required)] {
+            job.tag = tag;
+            let budgets = stopping_at(job.rounds, &[job.rounds - 1]);
+            write(file, &job, &budgets);
+        }
+    }
+}
+
+/// Lengths of jobs that are stopped around every change of part.
+fn edge_lengths(number: u32) -> Vec<(usize, usize)> {
+    let b = block(number);
+    let mut all = vec![(2 * b, b + 3), (b - 1, 0), (0, 0)];
+    if number == SPOOK {
+        all.extend([(0, 1), (0, b), (0, 2 * b + 1), (1, b - 1), (15, 16), (16, 17), (b, 0), (b + 1, 2 * b)]);
+    }
+    all
+}
+
 pub fn of_instance(number: u32) -> Written {
     let mut file = Written::default();
     let mut numbers = Numbers::new(300 + number as u64);
-    let b = instance(number).block;
+    let b = block(number);
     for kind in [Kind::Sealing, Kind::Opening, Kind::WrongTag] {
-        write_edges(&mut file, &mut numbers, kind, number, 2 * b, b + 3);
-        write_edges(&mut file, &mut numbers, kind, number, b - 1, 0);
-        write_edges(&mut file, &mut numbers, kind, number, 0, 0);
+        for (assoc, text) in edge_lengths(number) {
+            write_edges(&mut file, &mut numbers, kind, number, assoc, text);
+        }
         write_random(&mut file, &mut numbers, kind, number, 256, 4096);
         for _ in 0..RANDOM_JOBS {
             let (assoc, text) = (up_to(&mut numbers, 5 * b), up_to(&mut numbers, 5 * b));
@@ -178,9 +206,12 @@ pub fn of_instance(number: u32) -> Written {
         }
     }
     write_every_round(&mut file, &mut numbers, Kind::Sealing, number);
-    // With a short re-keying an opening has few enough rounds for it too; the other instances would take ten times as much of the file.
-    if instance(number).s_b == 1 {
+    // Without a long re-keying an opening has few enough rounds for it too; the other instances would take ten times as much of the file.
+    if number == SPOOK || instance(number).s_b == 1 {
         write_every_round(&mut file, &mut numbers, Kind::Opening, number);
+    }
+    if number == SPOOK {
+        write_misses(&mut file, &mut numbers);
     }
     file
 }

@@ -1,16 +1,17 @@
 //! Messages: sealed, opened again, and opened with one thing damaged.
 //!
-//! A case: instance (1 byte), lengths of associated data and text (2 each), seed (8), rounds of the sealing and of the opening (2), the
-//! damage: what (1), where (2), which bits (1), rounds of the opening that it ends (2); tag (16), and the ciphertext: whole up to 256
-//! bytes, of a longer one the first 8, the last 8 and the checksum (8).
+//! A case: instance (1 byte), lengths of associated data and text (2 each), seed (8), rounds of the sealing (2) and of the opening
+//! (2), the damage: what (1), where (2), which bits (1), rounds of the opening that it ends (2); tag (16), and the ciphertext: whole up to
+//! 256 bytes, of a longer one the first 8, the last 8 and the checksum (8).
 
 use super::room::Room;
 use super::{one_of, up_to, Kind, Written};
 use crate::filling::checksum;
-use crate::instances::instance;
+use crate::instances::{block, ALL};
 use crate::numbers::Numbers;
 use crate::paper::{ended, Given};
 use crate::record::{OPENING, SEALING, WELL, WRONG_TAG};
+use crate::spook::SPOOK;
 
 const MOST_ASSOC: usize = 256;
 const MOST_TEXT: usize = 4096;
@@ -46,7 +47,7 @@ pub struct Message {
 
 /// Whether a length is within 1 of a multiple of the block, or the largest.
 fn near_a_block(number: u32, length: usize, most: usize) -> bool {
-    let block = instance(number).block;
+    let block = block(number);
     (length + 1) % block <= 2 || length == most
 }
 
@@ -64,18 +65,36 @@ fn damage(numbers: &mut Numbers, number: u32, assoc: usize, text: usize) -> Dama
         What::Key | What::Nonce | What::Tag => up_to(numbers, 15),
         What::Assoc => up_to(numbers, assoc - 1),
         What::Ciphertext | What::Shorter => up_to(numbers, text - 1),
-        What::Instance => (number as usize + up_to(numbers, 2)) % 4 + 1,
+        What::Instance => (number as usize + up_to(numbers, ALL.len() - 2)) % ALL.len() + 1,
     };
     Damage { what, at, bits }
 }
 
 /// Every text up to 256 bytes and every longer one near a block's multiple; associated data in turn near a multiple and of any length.
-pub fn planned(number: u32) -> Vec<Message> {
-    let mut numbers = Numbers::new(100 + number as u64);
+fn lengths(numbers: &mut Numbers, number: u32) -> Vec<(usize, usize)> {
     let edges: Vec<usize> = (0..=MOST_ASSOC).filter(|length| near_a_block(number, *length, MOST_ASSOC)).collect();
     let texts = (0..=MOST_TEXT).filter(|text| *text <= SHOWN_WHOLE || near_a_block(number, *text, MOST_TEXT));
-    let planned = texts.enumerate().map(|(i, text)| {
-        let assoc = if i % 2 == 0 { edges[i / 2 % edges.len()] } else { up_to(&mut numbers, MOST_ASSOC) };
+    let chosen = texts.enumerate().map(|(i, text)| {
+        let assoc = if i % 2 == 0 { edges[i / 2 % edges.len()] } else { up_to(numbers, MOST_ASSOC) };
+        (assoc, text)
+    });
+    chosen.collect()
+}
+
+/// Around the halves and the wholes of Spook's first blocks, and the longest: each with each.
+fn spook_lengths() -> Vec<(usize, usize)> {
+    const SHORT: [usize; 11] = [0, 1, 15, 16, 17, 31, 32, 33, 63, 64, 65];
+    let assocs = SHORT.into_iter().chain([MOST_ASSOC]);
+    assocs.flat_map(|assoc| SHORT.into_iter().chain([256, MOST_TEXT]).map(move |text| (assoc, text))).collect()
+}
+
+pub fn planned(number: u32) -> Vec<Message> {
+    let mut numbers = Numbers::new(100 + number as u64);
+    let mut all = lengths(&mut numbers, number);
+    if number == SPOOK {
+        all.extend(spook_lengths());
+    }
+    let planned = all.into_iter().map(|(assoc, text)| {
         let seed = numbers.next();
         let damage = damage(&mut numbers, number, assoc, text);
         Message { instance: number, assoc, text, seed, damage }
@@ -126,6 +145,7 @@ fn write(file: &mut Written, m: &Message) {
     file.pair(m.text);
     file.eight(m.seed);
     file.pair(sealed.record.done as usize);
+    file.pair(opened.record.done as usize);
     file.byte(m.damage.what as u32);
     file.pair(m.damage.at);
     file.byte(m.damage.bits as u32);

@@ -9,6 +9,7 @@ mod refused;
 mod room;
 mod slices;
 
+use crate::instances::ALL;
 use crate::numbers::Numbers;
 use crate::threads::by_instance;
 use crate::written::Written;
@@ -71,6 +72,6 @@ pub fn file() -> Vec<u8> {
 /// What `compare` prints where nothing differs.
 pub fn summary() -> String {
     let mut all = besides_messages();
-    all.count(Kind::Message as u8, (1..=4).map(|number| messages::planned(number).len()).sum());
+    all.count(Kind::Message as u8, ALL.iter().map(|number| messages::planned(*number).len()).sum());
     all.summary(&NAMES)
 }

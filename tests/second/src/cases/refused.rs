@@ -2,10 +2,11 @@
 //!
 //! A whole call: direction (1 byte), instance (4), seed (8), lengths of key and nonce (1 each), associated data, text and output (2
 //! each) and tag (1), the number (1). A beginning: direction (1), instance (4), seed (8), lengths of key, nonce and tag (1 each), the
-//! two lengths as numbers (4 each), the tag (16), the number (1) and the record (184). The tag that is lent has zeros behind these 16.
+//! two lengths as numbers (4 each), the tag (16), the number (1) and the record (212). The tag that is lent has zeros behind these 16.
 
 use super::{one_of, up_to, Kind, Written};
 use crate::calls::{refusal, Lengths};
+use crate::instances::ALL;
 use crate::numbers::Numbers;
 use crate::record::{Record, OPENING, SEALING};
 
@@ -21,7 +22,7 @@ struct Trial {
 fn right(numbers: &mut Numbers) -> Trial {
     let (assoc, text) = (up_to(numbers, 256), up_to(numbers, 64));
     let lengths = Lengths { key: 16, nonce: 16, assoc, text, out: Some(text), tag: Some(16) };
-    Trial { instance: 1 + up_to(numbers, 3) as u32, lengths }
+    Trial { instance: one_of(numbers, &ALL), lengths }
 }
 
 /// Makes wrong what refusal `field` + 1 is about. `far` are lengths that only a number can have.
@@ -30,7 +31,7 @@ fn spoil(numbers: &mut Numbers, trial: &mut Trial, field: usize, far: &[usize]) 
     let not_sixteen = one_of(numbers, &[0, 1, 15, 17, 32]);
     let beyond = |limit: usize, most: usize| [&[limit, limit + 1, most][..], far].concat();
     match field {
-        0 => trial.instance = one_of(numbers, &[0, 5, 255, 256, u32::MAX]),
+        0 => trial.instance = one_of(numbers, &[0, 6, 255, 256, u32::MAX]),
         1 => l.key = not_sixteen,
         2 => l.nonce = not_sixteen,
         3 => l.assoc = one_of(numbers, &beyond(257, 512)),

@@ -5,6 +5,7 @@
 
 use super::{Kind, LASTS, ROOM, SHORT_TEXTS, STATIONS, TEXTS, UNKNOWN};
 use crate::filling::filled;
+use crate::instances::ALL;
 use crate::numbers::Numbers;
 use crate::parcel::{build, COUNTER_AT_ITS_LARGEST, HEADER, KEY_LENGTH, OUTPUT_LENGTH, TAG, TEXT_TOO_LONG, UNKNOWN_INSTANCE};
 use crate::written::Written;
@@ -60,7 +61,7 @@ const CAUSES: [u32; 5] = [UNKNOWN_INSTANCE, KEY_LENGTH, TEXT_TOO_LONG, OUTPUT_LE
 
 /// A sending with these causes; each turn has another value for each of them.
 fn spoilt(causes: &[u32], turn: usize) -> Sending {
-    let mut sending = right(1 + turn as u32 % 4, STATIONS[turn], LASTS[turn], TEXTS[turn + 3]);
+    let mut sending = right(ALL[turn], STATIONS[turn], LASTS[turn], TEXTS[turn + 3]);
     let has = |cause: u32| causes.contains(&cause);
     if has(UNKNOWN_INSTANCE) {
         sending.instance = UNKNOWN[turn];
@@ -96,7 +97,7 @@ fn just_wrong(instance: u32) -> [(Sending, u32); 6] {
 pub fn cases() -> Written {
     let mut file = Written::default();
     let mut numbers = Numbers::new(500);
-    for sending in (1..=4).flat_map(well) {
+    for sending in ALL.into_iter().flat_map(well) {
         assert!(write(&mut file, numbers.next(), &sending) == 0, "this parcel can be built");
     }
     for set in 1..1 << CAUSES.len() {
@@ -105,7 +106,7 @@ pub fn cases() -> Written {
             assert!(write(&mut file, numbers.next(), &spoilt(&causes, turn)) == causes[0], "the first cause is the answer");
         }
     }
-    for (sending, number) in (1..=4).flat_map(just_wrong) {
+    for (sending, number) in ALL.into_iter().flat_map(just_wrong) {
         assert!(write(&mut file, numbers.next(), &sending) == number, "one cause is the answer");
     }
     file

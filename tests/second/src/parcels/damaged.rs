@@ -1,10 +1,14 @@
 //! Parcels received with damage, and openings that are lent other lengths, alone and together: which answer comes first.
 
 use super::received::{sealed, write, Received};
-use super::UNKNOWN_BYTES;
+use super::{ROOM, UNKNOWN_BYTES};
 use crate::calls::{ENDED_WELL, TAG_DIFFERS};
+use crate::filling::filled;
+use crate::instances::ALL;
 use crate::numbers::Numbers;
-use crate::parcel::{read, Fields, CUT_SHORT, HEADER, KEY_LENGTH, OUTPUT_LENGTH, WRONG_MARK};
+use crate::paper::{closing, decided};
+use crate::parcel::{parts, read, Fields, CUT_SHORT, HEADER, KEY_LENGTH, OUTPUT_LENGTH, TAG, WRONG_MARK};
+use crate::spook::SPOOK;
 use crate::written::Written;
 
 const TEXT: usize = 19;
@@ -89,10 +93,29 @@ fn write_all_lengths(file: &mut Written, parcel: &Received) {
     cut.iter().chain(&flipped).chain([parcel]).for_each(|received| write_lengths(file, received));
 }
 
+/// A parcel of Spook with a tag whose inverse misses the required value by some bits of one byte.
+fn missing(parcel: &Received, at: usize, bits: u8) -> Received {
+    let [key, _, _] = filled(parcel.seed, ROOM);
+    let fields = read(&parcel.buffer).expect("a whole parcel");
+    let (cipher, _) = parts(&parcel.buffer);
+    let decided = decided(&fields.given(&key[..16], &parcel.buffer[..HEADER], cipher));
+    let (keyed, mut required) = closing(decided.key, &decided.session);
+    required[at] ^= bits;
+    let sealed = &parcel.buffer[..parcel.buffer.len() - TAG];
+    parcel.with([sealed, &keyed.encrypted(required)].concat())
+}
+
+fn write_misses(file: &mut Written, numbers: &mut Numbers, parcel: &Received) {
+    for at in 0..16 {
+        let missing = missing(parcel, at, 1 << (numbers.next() % 8));
+        assert!(write(file, &missing) == TAG_DIFFERS, "every byte of the required value counts");
+    }
+}
+
 pub fn cases() -> Written {
     let mut file = Written::default();
     let mut numbers = Numbers::new(520);
-    for instance in 1..=4 {
+    for instance in ALL {
         let (empty, parcel) = (parcel(&mut numbers, instance, 0), parcel(&mut numbers, instance, TEXT));
         write_header(&mut file, &parcel);
         write_body(&mut file, &mut numbers, &parcel);
@@ -104,9 +127,12 @@ pub fn cases() -> Written {
         let with_another_key = Received { seed: numbers.next(), ..parcel };
         assert!(write(&mut file, &with_another_key) == TAG_DIFFERS, "another key does not open it");
     }
-    let long = parcel(&mut numbers, 3, 4095);
-    [HEADER + 4094, HEADER + 4095].iter().for_each(|at| {
-        write(&mut file, &long.flipped(*at, 16));
-    });
+    let (empty, short) = (parcel(&mut numbers, SPOOK, 0), parcel(&mut numbers, SPOOK, TEXT));
+    [empty, short].iter().for_each(|parcel| write_misses(&mut file, &mut numbers, parcel));
+    for long in [parcel(&mut numbers, 3, 4095), parcel(&mut numbers, SPOOK, 4095)] {
+        [HEADER + 4094, HEADER + 4095].iter().for_each(|at| {
+            write(&mut file, &long.flipped(*at, 16));
+        });
+    }
     file
 }

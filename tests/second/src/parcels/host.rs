@@ -3,7 +3,8 @@
 
 use crate::known::unhex;
 use crate::lines::{bytes, six};
-use crate::parcel::{build, open, read, Fields};
+use crate::parcel::{build, open, read, Fields, HEADER};
+use crate::plan::rounds;
 
 /// Whether the line's parcel is the one that the second program builds, and reads and opens here to what it was built of.
 pub fn agrees(line: &str) -> bool {
@@ -14,10 +15,12 @@ pub fn agrees(line: &str) -> bool {
     let mut again = vec![0; parcel.len()];
     let built = build(instance, &key, station, last, &text, &mut again);
     let mut opened = vec![0; text.len()];
-    let (number, rounds) = open(&key, &parcel, &mut opened);
+    let answer = open(&key, &parcel, &mut opened);
+    let rounds = rounds(instance, HEADER, text.len());
     built.number == 0
         && again == parcel
         && read(&parcel) == Ok(Fields { instance, station, counter: built.counter, text: text.len() })
-        && (number, rounds) == (0, built.rounds)
+        && built.rounds as usize == rounds.sealing
+        && answer == (0, rounds.opening as u32)
         && opened == text
 }

@@ -34,12 +34,12 @@ const NAMES: [&str; 8] = [
 ];
 
 /// Instances that there are not: as a number, and as a header's byte.
-const UNKNOWN: [u32; 5] = [0, 5, 255, 256, u32::MAX];
-const UNKNOWN_BYTES: [u32; 3] = [0, 5, 255];
+const UNKNOWN: [u32; 5] = [0, 6, 255, 256, u32::MAX];
+const UNKNOWN_BYTES: [u32; 3] = [0, 6, 255];
 
-/// Text lengths around the blocks of both permutations, which are short, and the longest.
-const TEXTS: [usize; 10] = [0, 1, 7, 8, 9, 17, 18, 19, 4095, 4096];
-const SHORT_TEXTS: usize = 8;
+/// Text lengths around the blocks of each permutation, which are short, and the longest.
+const TEXTS: [usize; 13] = [0, 1, 7, 8, 9, 17, 18, 19, 31, 32, 33, 4095, 4096];
+const SHORT_TEXTS: usize = 11;
 
 /// Last counters that another one follows.
 const LASTS: [u64; 5] = [0, 1, u32::MAX as u64, 1 << 63, u64::MAX - 1];

@@ -7,6 +7,7 @@
 use super::{Kind, LASTS, ROOM, STATIONS, TEXTS};
 use crate::calls::{ENDED_WELL, TAG_DIFFERS};
 use crate::filling::filled;
+use crate::instances::ALL;
 use crate::numbers::Numbers;
 use crate::parcel::{build, open, parts, read, Fields, CUT_SHORT, WRONG_MARK};
 use crate::written::Written;
@@ -125,7 +126,7 @@ fn write_cut_and_followed(file: &mut Written, parcel: &Received) {
 pub fn cases() -> Written {
     let mut file = Written::default();
     let mut numbers = Numbers::new(510);
-    for instance in 1..=4 {
+    for instance in ALL {
         let parcels = whole(&mut numbers, instance);
         for parcel in &parcels {
             assert_built_again(parcel);
