@@ -1,26 +1,33 @@
 /*
- * isap.h: sealing and opening for a host in C. This header is the manual of the four calls.
+ * isap.h: sealing and opening for a host in C. This header is the manual of the five calls.
  *
  * A sealing turns a text into a ciphertext of the same length and a tag of 16 bytes. An opening takes both and gives the text back, if
  * key, nonce, associated data, ciphertext and tag are those of the sealing. Associated data is vouched for and not hidden. Never use a
- * nonce twice with the same key for sealing.
+ * nonce twice with the same key for sealing. Instances 1 to 4 are those of ISAP v2.0; 5 is Spook[128,512,su].
  *
- * Answers. Each call returns 64 bits: an answer number (isap_number) and permutation rounds (isap_rounds). The whole calls check 1 to 7
- * in this order and give the first that applies:
+ * Answers. Each call returns 64 bits: an answer number (isap_number) and rounds (isap_rounds). The whole calls check 1 to 7 in this order
+ * and give the first that applies:
  *
  *   0  ended well                            out has the whole text or ciphertext; of a sealing, tag has the tag
- *   1  instance is not 1 to 4                every lent byte is as it was
+ *   1  instance is not 1 to 5                every lent byte is as it was
  *   2  key is not 16 bytes                   every lent byte is as it was
  *   3  nonce is not 16 bytes                 every lent byte is as it was
  *   4  associated data is above 256 bytes    every lent byte is as it was
  *   5  text is above 4,096 bytes             every lent byte is as it was
  *   6  out is not as long as text            every lent byte is as it was
  *   7  tag is not 16 bytes                   every lent byte is as it was
- *   8  the tag is not the right one (open)   every lent byte is as it was: no text is written before the tag was compared
+ *   8  the tag is not the right one (open)   every lent byte is as it was: no text is written before the tag was checked
  *
- * Rounds are 0 with 1 to 7, the verification's with 8, all that the job took with 0. The largest figure is 15,816. An empty text costs the
- * encryption's re-keying too: with no associated data a job that ends well takes 350, 3,144, 350 and 3,176 in instances 1 to 4. Document
- * 01's other numbers (9, 10, 11, 100) belong to jobs in slices, which a host in C does not call; 12 to 14 belong to parcels (parcel.h).
+ * Rounds are 0 with 1 to 7, the verification's with 8, all that the call took with 0. The largest figure is 15,816.
+ *
+ *   - In instances 1 to 4, where rounds are those of the permutation, a sealing takes as many as an opening of its result. An empty text
+ *     costs the encryption's re-keying too: with no associated data a call that ends well takes 350, 3,144, 350 and 3,176.
+ *   - In instance 5 a round of Clyde and a round A or B of Shadow count one each. With u and v the numbers of 32-byte blocks of associated
+ *     data and text, a last short one counted, verification and sealing take 24 + 12(1 + u + v). An opening walks a second time for the
+ *     text and takes 12 + 12(u + v) more, or none more if the text is empty. With neither data nor text each takes 36.
+ *
+ * Document 01's other numbers (9, 10, 11, 100) belong to jobs in slices, which a host in C does not call; 12 to 14 belong to parcels
+ * (parcel.h).
  *
  * Pointers. A buffer is lent as a pointer and a length in bytes, for the time of the call, at any alignment. No pointer may be null, also
  * where the length is 0: lend the address of any byte then. Behind each pointer there must be as many bytes as the length says, also
@@ -66,6 +73,7 @@ extern "C" {
 #define ISAP_A_128 2
 #define ISAP_K_128A 3
 #define ISAP_K_128 4
+#define ISAP_SPOOK_128_512_SU 5
 
 /* Answer numbers. */
 #define ISAP_ENDED_WELL 0
@@ -101,9 +109,11 @@ uint64_t isap_open(uint32_t instance, const uint8_t *key, size_t key_len, const 
 
 /*
  * Rounds to plan for, from the lengths alone. Answers 0, or 1, 4, 5 in this order with 0 rounds. With 0 the rounds are those that a wrong
- * tag takes (verify), and those of a sealing or of an opening with a right tag (total).
+ * tag takes (verify), those of a sealing (seal), and those of an opening with a right tag (total). In instances 1 to 4 the last two are
+ * equal.
  */
 uint64_t isap_plan_verify(uint32_t instance, uint32_t assoc_len, uint32_t text_len);
+uint64_t isap_plan_seal(uint32_t instance, uint32_t assoc_len, uint32_t text_len);
 uint64_t isap_plan_total(uint32_t instance, uint32_t assoc_len, uint32_t text_len);
 
 #ifdef __cplusplus

@@ -6,7 +6,7 @@
  *
  *   from     bytes
  *   0        2      the mark, A7 5C
- *   2        1      instance, 1 to 4
+ *   2        1      instance, 1 to 5
  *   3        2      station
  *   5        8      counter
  *   13       2      m, the text's length, at most 4,096
@@ -31,8 +31,9 @@
  *     Each sender needs a station number or a key of its own, and a new key where its last counter is not known for sure. With a key for
  *     parcels nothing else is sealed.
  *
- * If two parcels of one instance have the same key, station and counter, whoever hears both has the xor of their two texts, as far as the
- * shorter goes, without the key; and where one text is known or guessed, the other as well.
+ * If two parcels of one instance have the same key, station and counter, whoever hears both has the xor of their two texts without the
+ * key; and where one text is known or guessed, the other as well. In instances 1 to 4 that goes as far as the shorter text does. In
+ * instance 5 it takes texts of equal length, and goes to the end of the first 32-byte block in which they differ.
  *
  * The counter, at the receiver. The fields that are read from a parcel are what the air brought; they are the sender's if parcel_open
  * answers 0 for the same bytes. That does not say that the parcel is new: a recorded one opens as well. A receiver that obeys what it opens
@@ -41,12 +42,12 @@
  * Answers. parcel_build and parcel_open return a number and rounds in 64 bits, which isap_number and isap_rounds take apart.
  *
  *   0   ended well                                   out has the whole parcel, or the whole text
- *   1   instance is not 1 to 4                       every lent byte is as it was
+ *   1   instance is not 1 to 5                       every lent byte is as it was
  *   2   key is not 16 bytes                          every lent byte is as it was
  *   5   text is above 4,096 bytes                    every lent byte is as it was
  *   6   out is not text + 31 bytes (build)           every lent byte is as it was
  *   6   out is not as long as the text (open)        every lent byte is as it was
- *   8   the tag is not the right one (open)          every lent byte is as it was: no text is written before the tag was compared
+ *   8   the tag is not the right one (open)          every lent byte is as it was: no text is written before the tag was checked
  *   12  the mark is not A7 5C                        every lent byte is as it was
  *   13  last is already the largest counter (build)  every lent byte is as it was
  *   14  the parcel is cut short                      every lent byte is as it was
@@ -57,7 +58,8 @@
  *   reading    14 (fewer than two bytes), 12, 14 (fewer than 15 bytes), 1, 5, 14 (ciphertext and tag are not all there)
  *   opening    those of reading, then 2, 6, 8
  *
- * Rounds are those of isap_plan_total(instance, 15, m) with 0 and those of isap_plan_verify(instance, 15, m) with 8; else there are none.
+ * Rounds are, with 0, those of isap_plan_seal(instance, 15, m) for a building and those of isap_plan_total(instance, 15, m) for an
+ * opening, and those of isap_plan_verify(instance, 15, m) with 8; else there are none.
  *
  * Linking. libparcel.a stands alone: it has a copy of the sealing's code inside and shows the seven calls, none of isap.h's. A host that
  * makes those too links libisap.a beside it, in either order.

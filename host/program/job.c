@@ -11,7 +11,7 @@
 int status_of(uint64_t answer)
 {
     static const char *const causes[] = {
-        [ISAP_BAD_INSTANCE] = "the instance is not 1 to 4",
+        [ISAP_BAD_INSTANCE] = "the instance is not 1 to 5",
         [ISAP_BAD_KEY] = "the key is not 16 bytes",
         [ISAP_BAD_NONCE] = "the nonce is not 16 bytes",
         [ISAP_LONG_ASSOC] = "the associated data is above 256 bytes",

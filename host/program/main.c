@@ -8,7 +8,7 @@
 #include "status.h"
 
 static const char help[] =
-    "isap: seals and opens by ISAP v2.0, texts and parcels\n"
+    "isap: seals and opens by ISAP v2.0 and Spook, texts and parcels\n"
     "\n"
     "  isap seal --instance I (--key-file F | --key HEX) (--nonce-file F | --nonce HEX)\n"
     "            [--assoc-file F | --assoc HEX] [--in F] [--out F]\n"
@@ -21,8 +21,8 @@ static const char help[] =
     "  isap --help\n"
     "\n"
     "seal reads a text of at most 4096 bytes and writes ciphertext and tag; open reads these and writes\n"
-    "the text, if the tag is right. plan prints the permutation rounds of a verification and of the\n"
-    "whole job.\n"
+    "the text, if the tag is right. plan prints the lines 'verify N', 'seal N' and 'total N': the rounds\n"
+    "of an opening with a wrong tag, of a sealing, and of an opening with a right tag.\n"
     "\n"
     "parcel build reads a text and writes it as a parcel for the radio, with the counter after the last\n"
     "one used. Before the parcel it prints a line 'counter N' on standard error: N is the last counter\n"
@@ -33,7 +33,7 @@ static const char help[] =
     "and prints the lines 'instance N', 'station N', 'counter N' and 'text N', which is the text's\n"
     "length, with no look at the tag. Bytes behind a parcel are not looked at.\n"
     "\n"
-    "  --instance   1 to 4, or ISAP-A-128a, ISAP-A-128, ISAP-K-128a, ISAP-K-128\n"
+    "  --instance   1 to 5, or ISAP-A-128a, ISAP-A-128, ISAP-K-128a, ISAP-K-128, Spook-128-512-su\n"
     "  --key-file   a file of 16 bytes\n"
     "  --key        32 hex digits; WARNING: other users of this machine can see a command line\n"
     "  --nonce-file, --nonce   likewise 16 bytes; never seal twice with the same key and nonce\n"

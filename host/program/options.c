@@ -96,7 +96,7 @@ int read_number_up_to(uint64_t *into, uint64_t largest, const char *name, const 
 
 int read_instance(uint32_t *into, const struct options *options)
 {
-    static const char *const instances[] = {"ISAP-A-128a", "ISAP-A-128", "ISAP-K-128a", "ISAP-K-128"};
+    static const char *const instances[] = {"ISAP-A-128a", "ISAP-A-128", "ISAP-K-128a", "ISAP-K-128", "Spook-128-512-su"};
     const char *word = options->word[OPTION_INSTANCE];
     for (uint32_t i = 0; word != NULL && i < sizeof instances / sizeof instances[0]; i++) {
         if (strcasecmp(word, instances[i]) == 0) {

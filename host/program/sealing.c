@@ -70,11 +70,13 @@ int run_plan(const struct options *options)
     if (status != STATUS_WELL)
         return status;
     uint64_t verify = isap_plan_verify(instance, assoc_len, text_len);
+    uint64_t seal = isap_plan_seal(instance, assoc_len, text_len);
     uint64_t total = isap_plan_total(instance, assoc_len, text_len);
     status = status_of(total);
     if (status != STATUS_WELL)
         return status;
     char lines[64];
-    int len = snprintf(lines, sizeof lines, "verify %" PRIu32 "\ntotal %" PRIu32 "\n", isap_rounds(verify), isap_rounds(total));
+    int len = snprintf(lines, sizeof lines, "verify %" PRIu32 "\nseal %" PRIu32 "\ntotal %" PRIu32 "\n", isap_rounds(verify),
+                       isap_rounds(seal), isap_rounds(total));
     return write_octets(NULL, (const uint8_t *)lines, (size_t)len);
 }

@@ -3,16 +3,18 @@
 #include "isap.h"
 #include "random.h"
 
-/* Now and then any length up to the largest, and the lengths at the edges of blocks. */
+/* Now and then any length up to the largest, the lengths at the edges of blocks, and none. */
 size_t draw_length(uint32_t largest)
 {
-    static const uint32_t edges[] = {0, 7, 8, 9, 16, 17, 18, 19, 36, 252, 255, 256, 4086, 4095, 4096};
+    static const uint32_t edges[] = {0, 7, 8, 9, 16, 17, 18, 19, 31, 32, 33, 36, 63, 64, 65, 252, 255, 256, 4064, 4065, 4086, 4095, 4096};
     uint32_t edge = edges[random_below(sizeof edges / sizeof edges[0])];
     switch (random_below(16)) {
     case 0:
         return random_below(largest + 1);
     case 1:
         return edge < largest ? edge : largest;
+    case 2:
+        return 0;
     default:
         return random_below(40);
     }
@@ -20,7 +22,7 @@ size_t draw_length(uint32_t largest)
 
 uint32_t draw_instance(void)
 {
-    static const uint32_t instances[] = {1, 1, 1, 3, 3, 3, 2, 4};
+    static const uint32_t instances[] = {1, 1, 1, 3, 3, 3, 5, 5, 5, 2, 4};
     return instances[random_below(sizeof instances / sizeof instances[0])];
 }
 
@@ -39,7 +41,7 @@ size_t draw_other_than(size_t right, uint32_t below)
 
 uint32_t draw_unknown_instance(void)
 {
-    static const uint32_t unknown[] = {0, 5, 6, 7, 255, 256, 257, 65537, 0x80000001, UINT32_MAX};
+    static const uint32_t unknown[] = {0, 6, 7, 8, 255, 256, 257, 261, 65537, 65541, 0x80000001, UINT32_MAX};
     return unknown[random_below(sizeof unknown / sizeof unknown[0])];
 }
 

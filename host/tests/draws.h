@@ -4,7 +4,7 @@
 
 #include "rules.h"
 
-/* 1 to 4; instances 2 and 4 take many rounds and come less often. */
+/* 1 to 5; instances 2 and 4 take many rounds and come less often. */
 uint32_t draw_instance(void);
 uint32_t draw_unknown_instance(void);
 

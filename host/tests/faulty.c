@@ -19,6 +19,14 @@ void flip(const uint8_t *at)
     *(uint8_t *)(uintptr_t)at ^= 0x20;
 }
 
+/* The faults of an instance at the end of the row. */
+static uint32_t other_instance(uint32_t instance)
+{
+    if (fault("instance_5_unknown") && instance == ISAP_SPOOK_128_512_SU)
+        return 0;
+    return fault("instance_6_known") && instance == ISAP_SPOOK_128_512_SU + 1 ? ISAP_SPOOK_128_512_SU : instance;
+}
+
 /* The faults of an answer in either direction, to a call with these lengths. */
 static uint64_t spoiled(uint64_t answer, uint32_t instance, size_t assoc_len, size_t text_len)
 {
@@ -34,10 +42,23 @@ static uint64_t spoiled(uint64_t answer, uint32_t instance, size_t assoc_len, si
     return answer;
 }
 
+/* The faults of an opening's rounds where they are not the sealing's. */
+static uint64_t spoiled_opening(uint64_t answer, uint32_t instance, size_t assoc_len, size_t text_len)
+{
+    if (isap_number(answer) != ISAP_ENDED_WELL || instance != ISAP_SPOOK_128_512_SU)
+        return answer;
+    if (fault("opening_counted_as_a_sealing"))
+        return isap_plan_seal(instance, (uint32_t)assoc_len, (uint32_t)text_len);
+    if (fault("empty_text_walked_for") && text_len == 0)
+        return answer + ((uint64_t)12 << 32);
+    return answer;
+}
+
 uint64_t __wrap_isap_seal(uint32_t instance, const uint8_t *key, size_t key_len, const uint8_t *nonce, size_t nonce_len,
                           const uint8_t *assoc, size_t assoc_len, const uint8_t *text, size_t text_len, uint8_t *out, size_t out_len,
                           uint8_t *tag, size_t tag_len)
 {
+    instance = other_instance(instance);
     uint64_t answer = __real_isap_seal(instance, key, key_len, nonce, nonce_len, assoc, assoc_len, text, text_len, out, out_len, tag,
                                        tag_len);
     int well = isap_number(answer) == ISAP_ENDED_WELL;
@@ -61,6 +82,7 @@ uint64_t __wrap_isap_open(uint32_t instance, const uint8_t *key, size_t key_len,
                           size_t tag_len, uint8_t *out, size_t out_len)
 {
     uint8_t received[ISAP_TAG_BYTES];
+    instance = other_instance(instance);
     if (fault("another_tag") && tag_len == sizeof received) {
         memcpy(received, tag, sizeof received);
         flip(received);
@@ -75,5 +97,12 @@ uint64_t __wrap_isap_open(uint32_t instance, const uint8_t *key, size_t key_len,
         flip(out);
     if (fault("plaintext_bit") && isap_number(answer) == ISAP_ENDED_WELL && out_len > 0)
         flip(out + out_len - 1);
-    return spoiled(answer, instance, assoc_len, text_len);
+    return spoiled(spoiled_opening(answer, instance, assoc_len, text_len), instance, assoc_len, text_len);
+}
+
+uint64_t __wrap_isap_plan_seal(uint32_t instance, uint32_t assoc_len, uint32_t text_len)
+{
+    if (fault("sealing_planned_as_an_opening"))
+        return isap_plan_total(instance, assoc_len, text_len);
+    return __real_isap_plan_seal(instance, assoc_len, text_len);
 }

@@ -66,7 +66,7 @@ static void write_sealing(void)
 
 static void sealed_call(const struct lengths *lengths)
 {
-    expect(0, seal(&call), 0, rules_total(call.instance, lengths->assoc, lengths->text));
+    expect(0, seal(&call), 0, rules_sealing(call.instance, lengths->assoc, lengths->text));
     hold(inputs_unchanged(&call), "a sealing changed its input");
     hold(guards_unchanged(&call.out) && guards_unchanged(&call.tag), "a sealing wrote outside");
     if (sealings++ % SEALINGS_FOR_EACH_LINE == 0)
@@ -76,7 +76,7 @@ static void sealed_call(const struct lengths *lengths)
 static void opened_call(const struct lengths *lengths, const uint8_t *plain)
 {
     lend(&call.out, lengths->out);
-    expect(1, open_sealed(&call), 0, rules_total(call.instance, lengths->assoc, lengths->text));
+    expect(1, open_sealed(&call), 0, rules_opening(call.instance, lengths->assoc, lengths->text));
     hold(inputs_unchanged(&call) && unchanged(&call.tag), "an opening changed its input");
     hold(guards_unchanged(&call.out), "an opening wrote outside");
     hold(memcmp(call.out.at, plain, lengths->text) == 0, "the text did not come back");
@@ -106,6 +106,14 @@ static void accepted_calls(void)
     damaged_call(&lengths);
 }
 
+/* A plan with this number, if it is not refused, has the rounds of the rules. */
+static void expect_plan(uint64_t plan, uint32_t number, uint32_t (*rules)(uint32_t, size_t, size_t), uint32_t instance,
+                        const struct lengths *lengths)
+{
+    hold(isap_number(plan) == number, "number of a plan");
+    hold(isap_rounds(plan) == (number == 0 ? rules(instance, lengths->assoc, lengths->text) : 0), "rounds of a plan");
+}
+
 /* Plans of any two lengths. */
 static void planned_calls(void)
 {
@@ -114,10 +122,9 @@ static void planned_calls(void)
     uint32_t text = one_in(4) ? (uint32_t)random_word() : random_below(2 * ISAP_TEXT_MAX);
     struct lengths lengths = {16, 16, assoc, text, text, 16};
     uint32_t number = rules_refusal(instance, &lengths);
-    uint64_t verify = isap_plan_verify(instance, assoc, text), total = isap_plan_total(instance, assoc, text);
-    hold(isap_number(verify) == number && isap_number(total) == number, "number of a plan");
-    hold(isap_rounds(verify) == (number == 0 ? rules_verify(instance, assoc, text) : 0), "verification of a plan");
-    hold(isap_rounds(total) == (number == 0 ? rules_total(instance, assoc, text) : 0), "total of a plan");
+    expect_plan(isap_plan_verify(instance, assoc, text), number, rules_verify, instance, &lengths);
+    expect_plan(isap_plan_seal(instance, assoc, text), number, rules_sealing, instance, &lengths);
+    expect_plan(isap_plan_total(instance, assoc, text), number, rules_opening, instance, &lengths);
 }
 
 static void make_calls(void)

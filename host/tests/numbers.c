@@ -1,4 +1,4 @@
-/* The library through C: every number from 0 to 8 with what it leaves, the order of refusals, and document 01's table of rounds. */
+/* The library through C: every number from 0 to 8 with what it leaves, the order of refusals, and rounds by the documents' tables. */
 #include <errno.h>
 #include <string.h>
 
@@ -20,21 +20,21 @@ static void refused(uint32_t instance, const struct lengths *lengths, uint32_t n
 }
 
 /* Everything is wrong; mending one thing after the other gives the next number. */
-static void refusals_in_order(void)
+static void refusals_in_order(uint32_t instance)
 {
     struct lengths lengths = {15, 17, 257, 4097, 4096, 15};
     refused(0, &lengths, 1);
-    refused(1, &lengths, 2);
+    refused(instance, &lengths, 2);
     lengths.key = 16;
-    refused(2, &lengths, 3);
+    refused(instance, &lengths, 3);
     lengths.nonce = 16;
-    refused(3, &lengths, 4);
+    refused(instance, &lengths, 4);
     lengths.assoc = 256;
-    refused(4, &lengths, 5);
+    refused(instance, &lengths, 5);
     lengths.text = 4095;
-    refused(1, &lengths, 6);
+    refused(instance, &lengths, 6);
     lengths.out = 4095;
-    refused(2, &lengths, 7);
+    refused(instance, &lengths, 7);
 }
 
 static void refusals_alone(void)
@@ -45,7 +45,11 @@ static void refusals_alone(void)
         struct lengths lengths;
         uint32_t number;
     } cases[] = {
-        {5, {16, 16, 8, 8, 8, 16}, 1},    {UINT32_MAX, {16, 16, 8, 8, 8, 16}, 1},
+        {6, {16, 16, 8, 8, 8, 16}, 1},    {UINT32_MAX, {16, 16, 8, 8, 8, 16}, 1},
+        {261, {16, 16, 8, 8, 8, 16}, 1},  {5, {16, 16, 8, 4097, 4097, 16}, 5},
+        {5, {0, 16, 8, 8, 8, 16}, 2},     {5, {16, 17, 8, 8, 8, 16}, 3},
+        {5, {16, 16, 257, 8, 8, 16}, 4},  {5, {16, 16, 8, 8, 32, 16}, 6},
+        {5, {16, 16, 8, 8, 8, 0}, 7},     {5, {16, 16, 8, 8, 8, 32}, 7},
         {1, {0, 16, 8, 8, 8, 16}, 2},     {1, {17, 16, 8, 8, 8, 16}, 2},
         {2, {16, 0, 8, 8, 8, 16}, 3},     {2, {16, 32, 8, 8, 8, 16}, 3},
         {3, {16, 16, 257, 8, 8, 16}, 4},  {4, {16, 16, 8, 4097, 4097, 16}, 5},
@@ -82,22 +86,23 @@ static void answers(uint64_t answer, uint32_t number, uint32_t rounds)
 }
 
 /* Planned, sealed, opened, and opened with a wrong tag: numbers, rounds, bytes. */
-static void rounds_of(uint32_t instance, size_t assoc, size_t text, uint32_t verify, uint32_t total)
+static void rounds_of(uint32_t instance, size_t assoc, size_t text, uint32_t verify, uint32_t sealing, uint32_t opening)
 {
     static uint8_t plain[ISAP_TEXT_MAX];
     const struct lengths lengths = {16, 16, assoc, text, text, 16};
     answers(isap_plan_verify(instance, (uint32_t)assoc, (uint32_t)text), ISAP_ENDED_WELL, verify);
-    answers(isap_plan_total(instance, (uint32_t)assoc, (uint32_t)text), ISAP_ENDED_WELL, total);
+    answers(isap_plan_seal(instance, (uint32_t)assoc, (uint32_t)text), ISAP_ENDED_WELL, sealing);
+    answers(isap_plan_total(instance, (uint32_t)assoc, (uint32_t)text), ISAP_ENDED_WELL, opening);
     errno = ERANGE;
     lend_all(&call, instance, &lengths);
     memcpy(plain, call.text.at, text);
-    answers(seal(&call), ISAP_ENDED_WELL, total);
+    answers(seal(&call), ISAP_ENDED_WELL, sealing);
     check(inputs_unchanged(&call) && guards_unchanged(&call.out) && guards_unchanged(&call.tag));
     check(!unchanged(&call.tag) && (text == 0 || !unchanged(&call.out)));
     lend_bytes(&call.text, call.out.at, text);
     remember(&call.tag);
     lend(&call.out, text);
-    answers(open_sealed(&call), ISAP_ENDED_WELL, total);
+    answers(open_sealed(&call), ISAP_ENDED_WELL, opening);
     check(memcmp(call.out.at, plain, text) == 0);
     check(inputs_unchanged(&call) && guards_unchanged(&call.out) && unchanged(&call.tag));
     damage(&call.tag);
@@ -115,33 +120,49 @@ static void document_01_table(void)
         {2, 256, 4096, 8124, 15816}, {3, 17, 17, 207, 358}, {3, 18, 18, 239, 390}, {4, 0, 0, 1628, 3176}, {4, 256, 4096, 6448, 10732},
     };
     for (size_t i = 0; i < sizeof table / sizeof table[0]; i++)
-        rounds_of(table[i][0], table[i][1], table[i][2], table[i][3], table[i][4]);
+        rounds_of(table[i][0], table[i][1], table[i][2], table[i][3], table[i][4], table[i][4]);
 }
 
 /* An empty text is re-keyed for; instances 1, 2 and 4 stand in the table. */
 static void empty_heartbeat(void)
 {
-    rounds_of(3, 0, 0, 207, 350);
+    rounds_of(3, 0, 0, 207, 350, 350);
+}
+
+/* Request (iv), at the edges of blocks: a sealing takes as many rounds as a verification, an opening more if there is a text. */
+static void spook_rounds(void)
+{
+    static const uint32_t table[][4] = {
+        {0, 0, 36, 36},    {0, 7, 48, 72},    {0, 16, 48, 72},    {0, 32, 48, 72},    {0, 33, 60, 96},   {0, 64, 60, 96},
+        {1, 0, 48, 48},    {16, 0, 48, 48},   {32, 0, 48, 48},    {33, 0, 60, 60},    {64, 0, 60, 60},   {256, 0, 132, 132},
+        {31, 31, 60, 96},  {32, 32, 60, 96},  {33, 32, 72, 120},  {32, 33, 72, 120},  {33, 33, 84, 144}, {256, 4096, 1668, 3312},
+    };
+    for (size_t i = 0; i < sizeof table / sizeof table[0]; i++)
+        rounds_of(5, table[i][0], table[i][1], table[i][2], table[i][2], table[i][3]);
 }
 
 static void plans_refused(void)
 {
     static const uint32_t cases[][4] = {
-        {0, 0, 0, 1}, {5, 257, 4097, 1}, {1, 257, 0, 4}, {2, 0, 4097, 5}, {3, 257, 4097, 4}, {4, UINT32_MAX, 0, 4}, {4, 0, UINT32_MAX, 5},
+        {0, 0, 0, 1},          {6, 257, 4097, 1},     {1, 257, 0, 4},    {2, 0, 4097, 5},    {3, 257, 4097, 4},     {4, UINT32_MAX, 0, 4},
+        {4, 0, UINT32_MAX, 5}, {UINT32_MAX, 0, 0, 1}, {5, 257, 4097, 4}, {5, 256, 4097, 5},  {5, UINT32_MAX, 0, 4}, {5, 0, UINT32_MAX, 5},
     };
     for (size_t i = 0; i < sizeof cases / sizeof cases[0]; i++) {
         check(isap_plan_verify(cases[i][0], cases[i][1], cases[i][2]) == cases[i][3]);
+        check(isap_plan_seal(cases[i][0], cases[i][1], cases[i][2]) == cases[i][3]);
         check(isap_plan_total(cases[i][0], cases[i][1], cases[i][2]) == cases[i][3]);
     }
 }
 
 int main(void)
 {
-    refusals_in_order();
+    for (uint32_t instance = 1; instance <= 5; instance++)
+        refusals_in_order(instance);
     refusals_alone();
     lengths_above_32_bits();
     document_01_table();
     empty_heartbeat();
+    spook_rounds();
     plans_refused();
     return checks_ended("numbers");
 }

@@ -54,6 +54,8 @@ uint64_t __wrap_parcel_build(uint32_t instance, const uint8_t *key, size_t key_l
         last--;
     if (fault("counter_begins_anew") && last == UINT64_MAX)
         last = 0;
+    if (fault("instance_5_not_built") && instance == ISAP_SPOOK_128_512_SU)
+        return ISAP_BAD_INSTANCE;
     if (fault("longer_output_taken") && out_len == text_len + PARCEL_ADDED_BYTES + 1)
         out_len--;
     if (fault("station_turned"))
@@ -71,6 +73,8 @@ uint64_t __wrap_parcel_open(const uint8_t *key, size_t key_len, const uint8_t *p
     size_t text_len = __real_parcel_text(parcel, parcel_len);
     uint64_t answer = __real_parcel_open(key, key_len, parcel, parcel_len, out, out_len);
     uint32_t number = isap_number(answer);
+    if (fault("opening_counted_as_a_building") && number == ISAP_ENDED_WELL)
+        return isap_plan_seal(parcel[2], PARCEL_HEADER_BYTES, (uint32_t)text_len);
     if (fault("bytes_behind_refused") && number == ISAP_ENDED_WELL && parcel_len > text_len + PARCEL_ADDED_BYTES)
         return PARCEL_CUT_SHORT;
     if (fault("key_before_mark") && number == PARCEL_WRONG_MARK && key_len != ISAP_KEY_BYTES)
@@ -93,6 +97,8 @@ uint32_t __wrap_parcel_number(const uint8_t *parcel, size_t parcel_len)
         return PARCEL_CUT_SHORT;
     if (fault("instance_before_fifteen_bytes") && number == PARCEL_CUT_SHORT && parcel_len == PARCEL_HEADER_BYTES - 1 && parcel[2] == 0)
         return ISAP_BAD_INSTANCE;
+    if (fault("instance_6_read") && number == ISAP_BAD_INSTANCE && parcel[2] == ISAP_SPOOK_128_512_SU + 1)
+        return ISAP_ENDED_WELL;
     if (fault("length_before_instance") && number == ISAP_BAD_INSTANCE && parcel[13] >= PARCEL_TEXT_MAX >> 8)
         return ISAP_LONG_TEXT;
     if (fault("tag_not_counted") && number == PARCEL_CUT_SHORT && parcel_len >= PARCEL_ADDED_BYTES - 1)

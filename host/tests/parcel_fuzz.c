@@ -132,18 +132,19 @@ static void sent_parcel(void)
     hold(made(opening_differs, openings) != 0, "an opening that must be refused");
 }
 
-/* Bytes that begin as a parcel might, of any length. */
+/* Bytes that begin as a parcel might, of any length, often with the header just there or not. */
 static void read_noise(void)
 {
     uint8_t header[PARCEL_HEADER_BYTES];
+    size_t len = one_in(2) ? PARCEL_HEADER_BYTES - random_below(2) : draw_length(120);
     const struct fields fields = {
-        random_below(6), (uint16_t)random_word(), random_word(), one_in(4) ? random_below(UINT16_MAX) : random_below(40),
+        random_below(7), (uint16_t)random_word(), random_word(), one_in(4) ? random_below(UINT16_MAX) : random_below(40),
     };
     rules_header(header, &fields);
     if (one_in(4))
         header[random_below(2)] = (uint8_t)random_word();
-    lend_parcel_call(&call, one_in(4) ? draw_other_than(16, 64) : 16, draw_length(120), one_in(2) ? fields.text % 40 : random_below(40));
-    memcpy(call.input.at, header, call.input.len < sizeof header ? call.input.len : sizeof header);
+    lend_parcel_call(&call, one_in(4) ? draw_other_than(16, 64) : 16, len, one_in(2) ? fields.text % 40 : random_below(40));
+    memcpy(call.input.at, header, len < sizeof header ? len : sizeof header);
     remember(&call.input);
     hold(made(opening_differs, openings) != 0, "noise that opens");
 }

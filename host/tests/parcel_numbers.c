@@ -60,12 +60,13 @@ static void building_alone(void)
         size_t key, text, out;
         uint32_t number;
     } cases[] = {
-        {0, 16, 8, 39, 1},     {5, 16, 8, 39, 1},      {257, 16, 8, 39, 1},    {UINT32_MAX, 16, 8, 39, 1}, {1, 0, 8, 39, 2},
+        {0, 16, 8, 39, 1},     {6, 16, 8, 39, 1},      {257, 16, 8, 39, 1},    {UINT32_MAX, 16, 8, 39, 1}, {1, 0, 8, 39, 2},
         {2, 15, 8, 39, 2},     {3, 17, 8, 39, 2},      {4, 32, 8, 39, 2},      {1, 16, 4097, 4128, 5},     {1, 16, 4097, 4127, 5},
         {1, 16, 0, 30, 6},     {1, 16, 0, 32, 6},      {1, 16, 0, 0, 6},       {2, 16, 1, 31, 6},          {2, 16, 1, 33, 6},
         {2, 16, 1, 1, 6},      {3, 16, 4096, 4126, 6}, {3, 16, 4096, 4128, 6}, {3, 16, 4096, 4096, 6},     {4, 16, 8, 24, 6},
         {1, 16, 0, 31, 0},     {1, 16, 1, 32, 0},      {1, 16, 4096, 4127, 0}, {2, 16, 0, 31, 0},          {2, 16, 1, 32, 0},
         {2, 16, 4096, 4127, 0}, {3, 16, 0, 31, 0},     {3, 16, 4095, 4126, 0}, {4, 16, 1, 32, 0},          {4, 16, 4096, 4127, 0},
+        {5, 17, 8, 39, 2},     {5, 16, 4097, 4128, 5}, {5, 16, 32, 62, 6},     {5, 16, 0, 31, 0},          {5, 16, 4096, 4127, 0},
     };
     for (size_t i = 0; i < sizeof cases / sizeof cases[0]; i++) {
         call.instance = cases[i].instance;
@@ -83,19 +84,41 @@ static void counters(void)
     builds(16, 8, 39, 13);
 }
 
-/* The header byte by byte, and rounds that are those of the sealing. */
+/* The header byte by byte. */
 static void layout(void)
 {
     static const uint8_t header[] = {0xA7, 0x5C, 2, 0x12, 0x34, 1, 2, 3, 4, 5, 6, 7, 8, 0x0F, 0xFE};
     errno = ERANGE;
     sends(2, 0x1234, 0x0102030405060707, 0x0FFE, 0);
     check(sizeof header == PARCEL_HEADER_BYTES && memcmp(call.input.at, header, sizeof header) == 0);
-    check(call.answer == isap_plan_total(2, PARCEL_HEADER_BYTES, 0x0FFE));
-    damage(&call.key);
-    lend(&call.out, 0x0FFE);
-    opens(8);
-    check(call.answer - ISAP_WRONG_TAG == isap_plan_verify(2, PARCEL_HEADER_BYTES, 0x0FFE));
     check(errno == ERANGE);
+}
+
+/* Rounds as planned: a building's are the sealing's, an opening's its own. */
+static void planned(uint32_t instance, uint32_t text)
+{
+    errno = ERANGE;
+    call.instance = instance;
+    builds(16, text, text + PARCEL_ADDED_BYTES, 0);
+    check(call.answer == isap_plan_seal(instance, PARCEL_HEADER_BYTES, text));
+    hand_over(&call, 0);
+    opens(0);
+    check(call.answer == isap_plan_total(instance, PARCEL_HEADER_BYTES, text));
+    damage(&call.key);
+    lend(&call.out, text);
+    opens(8);
+    check(call.answer - ISAP_WRONG_TAG == isap_plan_verify(instance, PARCEL_HEADER_BYTES, text));
+    check(errno == ERANGE);
+}
+
+static void rounds(void)
+{
+    call = (struct parcel_call){.station = 7, .last = 41};
+    for (uint32_t instance = 1; instance <= 5; instance++) {
+        planned(instance, 0);
+        planned(instance, 40);
+        planned(instance, PARCEL_TEXT_MAX);
+    }
 }
 
 /* The parcel's first len bytes are lent. */
@@ -132,7 +155,7 @@ static void damaged_header(void)
     static const uint8_t numbers[PARCEL_HEADER_BYTES][8] = {
         {12, 12, 12, 12, 12, 12, 12, 12},
         {12, 12, 12, 12, 12, 12, 12, 12},
-        {1, 0, 1, 1, 1, 1, 1, 1},
+        {1, 0, 0, 1, 1, 1, 1, 1},
         [13] = {14, 14, 14, 14, 5, 5, 5, 5},
         [14] = {0, 0, 0, 0, 14, 0, 14, 14},
     };
@@ -141,9 +164,9 @@ static void damaged_header(void)
         damaged_at(bit / 8, bit % 8, numbers[bit / 8][bit % 8]);
 }
 
-static void damaged_body(void)
+static void damaged_body(uint32_t instance)
 {
-    sends(1, 12, 41, 40, 9);
+    sends(instance, 12, 41, 40, 9);
     for (size_t byte = PARCEL_HEADER_BYTES; byte < 40 + PARCEL_ADDED_BYTES; byte += 5)
         damaged_at(byte, byte % 8, 0);
 }
@@ -167,10 +190,11 @@ static void reading_in_order(void)
         uint32_t number;
     } cases[] = {
         {0xA6, 0, 4097, 0, 14},    {0xA6, 0, 4097, 1, 14},       {0xA6, 0, 4097, 2, 12},    {0xA6, 0, 4097, 14, 12},
-        {0xA6, 0, 4097, 4200, 12}, {0xA7, 0, 4097, 14, 14},      {0xA7, 0, 4097, 15, 1},    {0xA7, 5, 4097, 15, 1},
+        {0xA6, 0, 4097, 4200, 12}, {0xA7, 0, 4097, 14, 14},      {0xA7, 0, 4097, 15, 1},    {0xA7, 6, 4097, 15, 1},
         {0xA7, 255, 0, 31, 1},     {0xA7, 1, 4097, 15, 5},       {0xA7, 4, 4097, 4128, 5},  {0xA7, 1, UINT16_MAX, 4200, 5},
         {0xA7, 1, 4096, 15, 14},   {0xA7, 1, 4096, 4126, 14},    {0xA7, 4, 4096, 4127, 6},  {0xA7, 4, 0, 30, 14},
         {0xA7, 4, 0, 31, 8},       {0xA7, 2, 41, 40 + 31, 14},   {0xA7, 2, 41, 41 + 31, 8}, {0xA7, 3, 41, 4200, 8},
+        {0xA7, 5, 4097, 15, 5},    {0xA7, 5, 0, 30, 14},         {0xA7, 5, 0, 31, 8},       {0xA7, 5, 41, 4200, 8},
     };
     for (size_t i = 0; i < sizeof cases / sizeof cases[0]; i++) {
         lend_header(cases[i].mark, cases[i].instance, cases[i].text, cases[i].len);
@@ -246,22 +270,41 @@ static void counter_used_twice(void)
         check((cipher[i] ^ call.out.at[PARCEL_HEADER_BYTES + i]) == (text[i] ^ call.input.at[i]));
 }
 
+/* The same in instance 5, where texts of equal length differ first in their second block. */
+static void counter_used_twice_by_spook(void)
+{
+    static uint8_t text[100], cipher[100];
+    sends(5, 12, 41, 100, 0);
+    memcpy(text, call.out.at, 100);
+    memcpy(cipher, call.input.at + PARCEL_HEADER_BYTES, 100);
+    text[40] ^= 1;
+    lend_bytes(&call.input, text, 100);
+    lend(&call.out, 100 + PARCEL_ADDED_BYTES);
+    check(building_differs(&call) == NULL);
+    cipher[40] ^= 1;
+    check(memcmp(cipher, call.out.at + PARCEL_HEADER_BYTES, 64) == 0);
+    check(memcmp(cipher + 64, call.out.at + PARCEL_HEADER_BYTES + 64, 36) != 0);
+}
+
 int main(void)
 {
     building_in_order();
     building_alone();
     counters();
     layout();
+    rounds();
     cut_from(0, 0);
     cut_from(0, 1);
     cut_from(0, 300);
     cut_from(PARCEL_TEXT_MAX, PARCEL_TEXT_MAX);
     damaged_header();
-    damaged_body();
+    damaged_body(1);
+    damaged_body(5);
     reading_in_order();
     opening_in_order();
     bytes_behind();
     lengths_above_32_bits();
     counter_used_twice();
+    counter_used_twice_by_spook();
     return checks_ended("parcel_numbers");
 }

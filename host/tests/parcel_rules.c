@@ -15,7 +15,7 @@ static void put_number(uint8_t *at, size_t count, uint64_t number)
 
 uint32_t rules_build_refusal(uint32_t instance, size_t key, size_t text, size_t out, uint64_t last)
 {
-    if (instance < 1 || instance > 4)
+    if (instance < 1 || instance > 5)
         return 1;
     if (key != 16)
         return 2;
@@ -34,7 +34,7 @@ static uint32_t refusal_of(const uint8_t *bytes, size_t len)
         return 12;
     if (len < 15)
         return 14;
-    if (bytes[2] < 1 || bytes[2] > 4)
+    if (bytes[2] < 1 || bytes[2] > 5)
         return 1;
     if (number_at(bytes + 13, 2) > 4096)
         return 5;

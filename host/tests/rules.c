@@ -1,5 +1,7 @@
 #include "rules.h"
 
+enum { SPOOK = 5 };
+
 /* The table 'The four instances'. */
 static const struct {
     uint32_t block, sH, sB, sE, sK;
@@ -12,7 +14,7 @@ static const struct {
 
 uint32_t rules_refusal(uint32_t instance, const struct lengths *lengths)
 {
-    if (instance < 1 || instance > 4)
+    if (instance < 1 || instance > SPOOK)
         return 1;
     if (lengths->key != 16)
         return 2;
@@ -33,16 +35,37 @@ static uint32_t rekeying(uint32_t instance)
     return 2 * instances[instance].sK + 127 * instances[instance].sB;
 }
 
+/* A last short one counted. */
+static uint32_t blocks(size_t len, uint32_t block)
+{
+    return ((uint32_t)len + block - 1) / block;
+}
+
+/* u + v */
+static uint32_t spook_blocks(size_t assoc, size_t text)
+{
+    return blocks(assoc, 32) + blocks(text, 32);
+}
+
 uint32_t rules_verify(uint32_t instance, size_t assoc, size_t text)
 {
+    if (instance == SPOOK)
+        return 24 + 12 * (1 + spook_blocks(assoc, text));
     uint32_t block = instances[instance].block;
     return instances[instance].sH * ((uint32_t)assoc / block + (uint32_t)text / block + 4) + rekeying(instance);
 }
 
-uint32_t rules_total(uint32_t instance, size_t assoc, size_t text)
+uint32_t rules_sealing(uint32_t instance, size_t assoc, size_t text)
 {
-    uint32_t block = instances[instance].block;
-    uint32_t blocks = ((uint32_t)text + block - 1) / block;
-    uint32_t encryption = rekeying(instance) + instances[instance].sE * blocks;
-    return encryption + rules_verify(instance, assoc, text);
+    uint32_t verify = rules_verify(instance, assoc, text);
+    if (instance == SPOOK)
+        return verify;
+    return verify + rekeying(instance) + instances[instance].sE * blocks(text, instances[instance].block);
+}
+
+/* Spook walks a second time for a text that is not empty. */
+uint32_t rules_opening(uint32_t instance, size_t assoc, size_t text)
+{
+    uint32_t second_walk = instance == SPOOK && text > 0 ? 12 + 12 * spook_blocks(assoc, text) : 0;
+    return rules_sealing(instance, assoc, text) + second_walk;
 }

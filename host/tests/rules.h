@@ -1,4 +1,7 @@
-/* Document 01's rules as a host would write them down, apart from the library: the order of refusals and the counting of rounds. */
+/*
+ * The rules of document 01, and of document 02's request (iv) for instance 5, as a host would write them down, apart from the library: the
+ * order of refusals and the counting of rounds.
+ */
 #ifndef RULES_H
 #define RULES_H
 
@@ -12,8 +15,9 @@ struct lengths {
 /* 1 to 7, or 0. */
 uint32_t rules_refusal(uint32_t instance, const struct lengths *lengths);
 
-/* V, and E + V, of an instance from 1 to 4. */
+/* Rounds of an instance from 1 to 5: V, a sealing's, and those of an opening with a right tag. */
 uint32_t rules_verify(uint32_t instance, size_t assoc, size_t text);
-uint32_t rules_total(uint32_t instance, size_t assoc, size_t text);
+uint32_t rules_sealing(uint32_t instance, size_t assoc, size_t text);
+uint32_t rules_opening(uint32_t instance, size_t assoc, size_t text);
 
 #endif

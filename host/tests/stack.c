@@ -124,7 +124,7 @@ int main(void)
 {
     const struct lengths lengths = {16, 16, 18, 40, 40, 16};
     size_t most = 0, most_of_a_parcel = 0;
-    for (uint32_t instance = 1; instance <= 4; instance++) {
+    for (uint32_t instance = 1; instance <= 5; instance++) {
         most = larger(most, deepest(instance, 0, 0));
         most = larger(most, deepest(instance, 19, 37));
         most = larger(most, deepest(instance, 256, 4096));
@@ -134,9 +134,12 @@ int main(void)
     }
     within("isap.h", most, ISAP_STACK_BYTES);
     within("parcel.h", most_of_a_parcel, PARCEL_STACK_BYTES);
-    lend_all(&call, ISAP_K_128, &lengths);
-    wiped_after(sealing, &call.key);
-    lend_parcel_call(&parcel, 16, 40, 40 + PARCEL_ADDED_BYTES);
-    wiped_after(building, &parcel.key);
+    for (uint32_t instance = 1; instance <= 5; instance++) {
+        lend_all(&call, instance, &lengths);
+        wiped_after(sealing, &call.key);
+        parcel.instance = instance;
+        lend_parcel_call(&parcel, 16, 40, 40 + PARCEL_ADDED_BYTES);
+        wiped_after(building, &parcel.key);
+    }
     return checks_ended("stack");
 }

@@ -8,9 +8,11 @@ uint64_t __real_isap_seal(uint32_t, const uint8_t *, size_t, const uint8_t *, si
                           uint8_t *, size_t, uint8_t *, size_t);
 uint64_t __real_isap_open(uint32_t, const uint8_t *, size_t, const uint8_t *, size_t, const uint8_t *, size_t, const uint8_t *, size_t,
                           const uint8_t *, size_t, uint8_t *, size_t);
+uint64_t __real_isap_plan_seal(uint32_t, uint32_t, uint32_t);
 uint64_t __wrap_isap_seal(uint32_t, const uint8_t *, size_t, const uint8_t *, size_t, const uint8_t *, size_t, const uint8_t *, size_t,
                           uint8_t *, size_t, uint8_t *, size_t);
 uint64_t __wrap_isap_open(uint32_t, const uint8_t *, size_t, const uint8_t *, size_t, const uint8_t *, size_t, const uint8_t *, size_t,
                           const uint8_t *, size_t, uint8_t *, size_t);
+uint64_t __wrap_isap_plan_seal(uint32_t, uint32_t, uint32_t);
 
 #endif

@@ -1,9 +1,10 @@
 /* One call of the library on bytes from the command line, for counting instructions. Whatever the bytes are, the program itself does
    the same work: hex digits are read and written without a branch, and strings of equal length take equal steps.
 
-   probe seal|open|build|unpack|idle INSTANCE ASSOC_LEN TEXT_LEN HEX
+   probe seal|open|guess|build|unpack|idle INSTANCE ASSOC_LEN TEXT_LEN HEX
    HEX is key, nonce, tag, associated data, text. seal and build do not read the tag; build and unpack, of a parcel with counter 42 of
-   station 12, read neither nonce nor associated data; idle makes no call. Prints the answer's number, the output and the tag. */
+   station 12, read neither nonce nor associated data; guess opens with 1,024 tags, none of them the one given; idle makes no call. Prints
+   the answer's number, the output and the tag. */
 #include "parcel.h"
 #include <stdio.h>
 #include <stdlib.h>
@@ -54,6 +55,24 @@ static uint64_t in_a_parcel(int builds, uint32_t instance, const uint8_t *key, c
     return parcel_open(key, STRING, parcel, m + ADDED, out, m);
 }
 
+enum { GUESSES = 1024 };
+
+/* 8 if every opening gives that, with tags whose first two bytes are others than this one's; else what the first gives that does not. */
+static uint64_t guessed(uint32_t instance, const uint8_t *key, const uint8_t *nonce, const uint8_t *assoc, size_t a, const uint8_t *text,
+                        size_t m, const uint8_t *tag, uint8_t *out)
+{
+    uint8_t other[STRING];
+    memcpy(other, tag, STRING);
+    for (unsigned i = 1; i <= GUESSES; i++) {
+        other[0] = (uint8_t)(tag[0] ^ i);
+        other[1] = (uint8_t)(tag[1] ^ i >> 8);
+        uint32_t number = isap_number(isap_open(instance, key, STRING, nonce, STRING, assoc, a, text, m, other, STRING, out, m));
+        if (number != ISAP_WRONG_TAG)
+            return number;
+    }
+    return ISAP_WRONG_TAG;
+}
+
 int main(int argc, char **argv)
 {
     static uint8_t in[INPUT], out[TEXT];
@@ -71,6 +90,8 @@ int main(int argc, char **argv)
         answer = isap_seal(instance, key, STRING, nonce, STRING, assoc, a, text, m, out, m, tag, STRING);
     if (strcmp(argv[1], "open") == 0)
         answer = isap_open(instance, key, STRING, nonce, STRING, assoc, a, text, m, tag, STRING, out, m);
+    if (strcmp(argv[1], "guess") == 0)
+        answer = guessed(instance, key, nonce, assoc, a, text, m, tag, out);
     if (strcmp(argv[1], "build") == 0 || strcmp(argv[1], "unpack") == 0)
         answer = in_a_parcel(argv[1][0] == 'b', instance, key, text, m, out, tag);
     uint8_t number = (uint8_t)answer;
