@@ -28,7 +28,7 @@ static void open(void)
 int main(void)
 {
     size_t empty = painted_depth(nothing);
-    for (instance = 1; instance <= 4; instance++) {
+    for (instance = 1; instance <= 5; instance++) {
         size_t sealing = painted_depth(seal), opening = painted_depth(open);
         if (isap_number(answer) != ISAP_ENDED_WELL)
             return 1;

@@ -2,8 +2,9 @@
 # 'INSTANCE SEALING OPENING'. For the part `times` a request has several lines, and lines 'NAME=VALUE' stand before them.
 
 BEGIN {
-    split("ISAP-A-128a ISAP-A-128 ISAP-K-128a ISAP-K-128", name)
-    split("8 8 18 18", block)
+    instances = split("ISAP-A-128a ISAP-A-128 ISAP-K-128a ISAP-K-128 Spook-128-512-su", name)
+    spook = 5
+    split("8 8 18 18 32", block)
     split("12 12 16 20", hash)
     split("6 12 8 12", encrypt)
     split("151 1548 143 1548", rekey)
@@ -56,10 +57,22 @@ function spelled(n,    digits, s) {
     return digits s
 }
 
-# The rounds of a sealing, and of an opening with a right tag.
-function rounds(i, a, m,    blocks) {
-    blocks = int((m + block[i] - 1) / block[i])
-    return hash[i] * (int(a / block[i]) + int(m / block[i]) + 4) + 2 * rekey[i] + encrypt[i] * blocks
+# The blocks of a string, a last short one counted.
+function blocks(i, bytes) {
+    return int((bytes + block[i] - 1) / block[i])
+}
+
+function sealing_rounds(i, a, m) {
+    if (i == spook)
+        return 24 + 12 * (1 + blocks(i, a) + blocks(i, m))
+    return hash[i] * (int(a / block[i]) + int(m / block[i]) + 4) + 2 * rekey[i] + encrypt[i] * blocks(i, m)
+}
+
+# With a right tag: Spook then walks a second time, if there is text.
+function opening_rounds(i, a, m) {
+    if (i == spook && m > 0)
+        return sealing_rounds(i, a, m) + 12 + 12 * (blocks(i, a) + blocks(i, m))
+    return sealing_rounds(i, a, m)
 }
 
 function ratio(k) {
@@ -77,15 +90,15 @@ function key(operation, i, a, m, budget) {
 
 # Where we stand at 4,096 bytes, in words, and where we are furthest from the baseline.
 function stand(    i, all, met, missed) {
-    for (i = 1; i <= 4; i++) {
-        all = all (i > 1 ? (i < 4 ? ", " : " and ") : "") sprintf("%.2f", ratio(key(1, i, 0, 4096, 0)))
+    for (i = 1; i <= instances; i++) {
+        all = all (i > 1 ? (i < instances ? ", " : " and ") : "") sprintf("%.2f", ratio(key(1, i, 0, 4096, 0)))
         if (ratio(key(1, i, 0, 4096, 0)) <= aim)
             met = met (met ? ", " : "") i
         else
             missed = missed (missed ? ", " : "") i
     }
     printf "The aim is that sealing 4,096 bytes takes at most %.1f times the baseline's instructions in each instance.\n", aim
-    printf "It takes %s times in instances 1 to 4. ", all
+    printf "It takes %s times in instances 1 to %d. ", all, instances
     printf "The aim is met in %s, and missed in %s.\n", met ? met : "none", missed ? missed : "none"
     furthest()
 }
@@ -99,26 +112,27 @@ function furthest(    k, worst, f) {
         f[1] == 1 ? "sealing" : "opening", spelled(f[4]), f[3], f[2], ratio(worst)
 }
 
-# Instructions a round at 4,096 bytes, all that is not a round counted in.
+# Instructions a round of sealing 4,096 bytes, all that is not a round counted in.
 function a_round(    i, k, r) {
     print "| Instance | rounds | ours | a round | baseline | a round | ours/baseline |\n|---|---|---|---|---|---|---|"
-    for (i = 1; i <= 4; i++) {
+    for (i = 1; i <= instances; i++) {
         k = key(1, i, 0, 4096, 0)
-        r = rounds(i, 0, 4096)
+        r = sealing_rounds(i, 0, 4096)
         printf "| %d %s | %s | %s | %.1f | %s | %.1f | %.2f |\n", i, name[i], spelled(r), spelled(ours[k]), ours[k] / r, \
             spelled(baseline[k]), baseline[k] / r, ratio(k)
     }
 }
 
 function whole_row(i, a, m) {
-    printf "| %d | %s | %s | %s | %s |\n", a, spelled(m), spelled(rounds(i, a, m)), cost(key(1, i, a, m, 0)), cost(key(2, i, a, m, 0))
+    printf "| %d | %s | %s | %s | %s | %s |\n", a, spelled(m), \
+        spelled(sealing_rounds(i, a, m)), cost(key(1, i, a, m, 0)), spelled(opening_rounds(i, a, m)), cost(key(2, i, a, m, 0))
 }
 
 function whole(    i, x, y) {
-    for (i = 1; i <= 4; i++) {
+    for (i = 1; i <= instances; i++) {
         printf "%sInstance %d, %s:\n\n", (i > 1 ? "\n" : ""), i, name[i]
-        print "| a | m | rounds | sealing: ours | baseline | ratio | opening: ours | baseline | ratio |"
-        print "|---|---|---|---|---|---|---|---|---|"
+        print "| a | m | sealing: rounds | ours | baseline | ratio | opening: rounds | ours | baseline | ratio |"
+        print "|---|---|---|---|---|---|---|---|---|---|"
         for (x = 1; x <= 2; x++)
             for (y = 1; y <= 6; y++)
                 whole_row(i, assocs[x], texts[y])
@@ -127,7 +141,7 @@ function whole(    i, x, y) {
 
 # The four budgets for one length.
 function slices_row(i, m,    x, k, r) {
-    r = rounds(i, 16, m)
+    r = sealing_rounds(i, 16, m)
     printf "| %d %s | %s | %s ", i, name[i], spelled(m), spelled(r)
     for (x = 1; x <= 4; x++) {
         k = key(3, i, 16, m, budgets[x])
@@ -138,7 +152,7 @@ function slices_row(i, m,    x, k, r) {
 
 function slices(    i, y) {
     print "| Instance | m | rounds | budget 1 | 8 | 64 | all | a slice more |\n|---|---|---|---|---|---|---|---|"
-    for (i = 1; i <= 4; i++)
+    for (i = 1; i <= instances; i++)
         for (y = 1; y <= 6; y++)
             slices_row(i, texts[y])
 }
@@ -171,7 +185,7 @@ function taken(k) {
 
 function times(    i, y) {
     print "| Instance | m | sealing: ours | baseline | ratio | opening: ours | baseline | ratio |\n|---|---|---|---|---|---|---|---|"
-    for (i = 1; i <= 4; i++)
+    for (i = 1; i <= instances; i++)
         for (y = 1; y <= 6; y++)
             printf "| %d %s | %s | %s | %s |\n", i, name[i], spelled(texts[y]), taken(key(1, i, 0, texts[y], 0)), taken(key(2, i, 0, texts[y], 0))
 }

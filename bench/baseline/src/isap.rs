@@ -1,5 +1,6 @@
 //! ISAP v2.0: sealing and opening, for any instance.
 
+use crate::instances::Lent;
 use crate::sponge::{bytes_of, words_of, Sponge};
 
 /// An instance: its permutation and its round counts sH, sB, sE, sK.
@@ -9,13 +10,6 @@ pub trait Instance {
     const BIT: u32;
     const ENCRYPT: u32;
     const KEY: u32;
-}
-
-/// What a job has besides its text.
-pub struct Lent<'a> {
-    pub key: &'a [u8; 16],
-    pub nonce: &'a [u8; 16],
-    pub assoc: &'a [u8],
 }
 
 const MAC: u64 = 1;

@@ -1,10 +1,15 @@
 //! Known answers, in the form of the LWC files: each case is sealed, opened, and refused with another tag.
 
-use crate::instances;
-use crate::isap::Lent;
+use crate::instances::{self, Lent};
 use std::collections::HashMap;
 
-const FILES: [(u32, &str); 4] = [(1, "isap-a-128a.txt"), (2, "isap-a-128.txt"), (3, "isap-k-128a.txt"), (4, "isap-k-128.txt")];
+const FILES: [(u32, &str); 5] = [
+    (1, "isap-a-128a.txt"),
+    (2, "isap-a-128.txt"),
+    (3, "isap-k-128a.txt"),
+    (4, "isap-k-128.txt"),
+    (5, "spook-128-512-su.txt"),
+];
 const TAG: usize = 16;
 
 type Case = HashMap<String, String>;

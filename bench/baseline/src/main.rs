@@ -1,15 +1,18 @@
-//! The baseline: ISAP v2.0 in Rust, made for speed on x86-64, with which bench/run compares the library.
+//! The baseline: ISAP v2.0 and Spook in Rust, made for speed on x86-64, with which bench/run compares the library.
 //!
 //! `baseline known FOLDER` holds it to the known answers in FOLDER; `baseline` does the requests of its standard input, as
 //! the library's program `measured` does, and prints the same lines.
 
 mod ascon;
+mod clyde;
 mod instances;
 mod isap;
 mod keccak;
 mod known;
 mod requests;
+mod shadow;
 mod sponge;
+mod spook;
 
 fn main() {
     let args: Vec<String> = std::env::args().skip(1).collect();

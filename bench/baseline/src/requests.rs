@@ -3,8 +3,7 @@
 //!
 //! Operations: 1 whole sealings, 2 whole openings, 3 sealings in slices, for which the baseline seals whole.
 
-use crate::instances;
-use crate::isap::Lent;
+use crate::instances::{self, Lent};
 use std::io::Read;
 
 const LENGTH: usize = 14;
