@@ -23,13 +23,12 @@ module _ (j : Job) where
   unfolding shapesOf
   is-part a = omega (arith, a .isPart, lawful-scheme (j .instance) .fixed (sealingOf (j .direction)) (j .assoc) (j .text))
 
-  abbrev pub Rounds : ℕ → Type 0
-  Rounds rounds = (a m : ℕ) → rounds ≡ shapeAt (allShapes (schemeOf (j .instance)) (sealingOf (j .direction)) a m) (j .place .part) .rounds
-
   abbrev pub Count : ℕ → Type 0
   Count count = count ≡ shapeAt (allShapes (schemeOf (j .instance)) (sealingOf (j .direction)) (j .assoc) (j .text)) (j .place .part) .count
 
-  pub rounds-is : (rounds : ℕ) → Rounds rounds → rounds ≡ roundsAt schemeOf j
+  -- the rounds of a call by the counting leaf, whatever the lengths
+  pub rounds-is : (rounds : ℕ) → ((a m : ℕ) → rounds ≡ shapeAt (allShapes (schemeOf (j .instance)) (sealingOf (j .direction)) a m) (j .place .part) .rounds)
+      → rounds ≡ roundsAt schemeOf j
   unfolding shapesOf
   rounds-is rounds r = r (j .assoc) (j .text)
 
@@ -43,7 +42,7 @@ module _ (j : Job) where
 
   -- ---- the choice
 
-  pub chosen : (left rounds : ℕ) → Rounds rounds → j .place .round ≡ 0 → (j .place .call ≡ 0 → ⊥) → Rowable j → (count : ℕ) → Count count → count ≤ mostCalls
+  pub chosen : (left rounds : ℕ) → rounds ≡ roundsAt schemeOf j → j .place .round ≡ 0 → (j .place .call ≡ 0 → ⊥) → Rowable j → (count : ℕ) → Count count → count ≤ mostCalls
       → (calls : ℕ) → j .place .call + calls ≤ count - 1 → 0 < count → calls * rounds ≤ left → Rows schemeOf j left calls
   chosen left rounds r start later can count n most calls up pos fits =
       record {
@@ -51,7 +50,7 @@ module _ (j : Job) where
           row = record { atStart = start; notFirst = omega (arith, later); notLast = omega (arith, count-is count n); small = omega arith };
           isMany = can;
         };
-        fits = subst (λ (i : ℕ). calls * i ≤ left) (rounds-is rounds r) fits;
+        fits = subst (λ (i : ℕ). calls * i ≤ left) r fits;
       }
 
 -- ---- the row
@@ -76,19 +75,19 @@ module _ (j : Job) (assoc text out : List ℕ) (h : Fresh schemeOf j assoc text 
       lent : allShapes (schemeOf (j .instance)) (sealingOf (j .direction)) (j .assoc) (j .text) ≡ allShapes (schemeOf (j .instance)) (sealingOf (j .direction)) (length assoc) (length text)
       lent = ap₂ (allShapes (schemeOf (j .instance)) (sealingOf (j .direction))) (sym (h .assocLong)) (sym (h .textLong))
 
-module _ (j : Job) (assoc text out : List ℕ) (h : Fresh schemeOf j assoc text out) (calls : ℕ) (row : Row schemeOf j calls) (rounds : ℕ) (rs : Rounds j rounds) where
+module _ (j : Job) (assoc text out : List ℕ) (h : Fresh schemeOf j assoc text out) (calls : ℕ) (row : Row schemeOf j calls) (rounds : ℕ) (rs : rounds ≡ roundsAt schemeOf j) where
   done-fits : j .done + calls * roundsAt schemeOf j ≤ mostRounds
   done-fits = omega (arith, row-upto schemeOf lawful-scheme j assoc text out h calls row, total-of j (h .assocLimit) (h .textLimit))
 
   pub sum-fits : j .done + calls * rounds ≤ mostRounds
-  sum-fits = omega (arith, done-fits, ap (λ (n : ℕ). calls * n) (rounds-is j rounds rs))
+  sum-fits = omega (arith, done-fits, ap (λ (n : ℕ). calls * n) rs)
 
   pub gone-on : (state out′ : List ℕ) → Went schemeOf j calls assoc text out state out′ → length out′ ≡ length out → (r : Job)
       → r ≡ changed j (j .tag) (j .done + calls * rounds) (record { part = j .place .part; call = j .place .call + calls; round = 0 }) (j .ending) state (j .session)
       → Turned schemeOf j assoc text out (calls * roundsAt schemeOf j) r out′
   gone-on state out′ g l r e =
       let at : Place = record { part = j .place .part; call = j .place .call + calls; round = 0 } in
-      let d : j .done + calls * roundsAt schemeOf j ≡ j .done + calls * rounds = ap (λ (n : ℕ). j .done + calls * n) (sym (rounds-is j rounds rs)) in
+      let d : j .done + calls * roundsAt schemeOf j ≡ j .done + calls * rounds = ap (λ (n : ℕ). j .done + calls * n) (sym rs) in
       subst (λ (y : Job). Turned schemeOf j assoc text out (calls * roundsAt schemeOf j) y out′)
       (ap (λ (n : ℕ). changed j (j .tag) n at (j .ending) state (j .session)) d ∙ sym e)
       (row-turned schemeOf lawful-scheme j assoc text out h calls row state out′ g l)

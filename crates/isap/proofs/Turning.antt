@@ -11,7 +11,7 @@ use Rattle.stopping.specs.Places as places
 use Rattle.stopping.specs.Places.{placeOf, shapeAt}
 use Rattle.stopping.specs.Course.{endingOf}
 use Rattle.scheme.specs.Machine.{Machine}
-use Rattle.scheme.specs.Scheme.{allShapes, partsOf}
+use Rattle.scheme.specs.Scheme.{allShapes}
 use Rattle.scheme.specs.Calls as calls
 use Rattle.instances.specs.Schemes.{schemeOf, lawful-scheme}
 use Rattle.instances.specs.Limits.{mostRounds}
@@ -21,7 +21,8 @@ use Rattle.isap.specs.declared.Job.{Job}
 use Rattle.isap.specs.Records.{sealingOf, courseOf, shapesOf, changed}
 use Rattle.isap.specs.Turns.{At, Here, Ready, Meets, Left, Ends, at, total-is, rounds-now, endsWith, gone-by, turn-steps}
 use Rattle.isap.specs.Sofar.{Timed, Turned, up-to, turned-of}
-use Rattle.isap.proofs.Going.{total-of}
+use Rattle.isap.specs.Rows.{roundsAt}
+use Rattle.isap.proofs.Going.{is-part, total-of}
 
 module _ (j : Job) (assoc text out : List ℕ) (count : ℕ) (h : Ready schemeOf j assoc text out count) where
   there : At schemeOf j (j .place)
@@ -48,24 +49,19 @@ module _ (j : Job) (assoc text out : List ℕ) (count : ℕ) (h : Ready schemeOf
   unfolding shapesOf
   rest = record { a = j .assoc; m = j .text; isPart = there .isPart; fits = h .fits }
 
-  pub is-part : j .place .part < partsOf (schemeOf (j .instance)) (sealingOf (j .direction))
-  unfolding shapesOf
-  is-part = omega (arith, there .isPart, lawful-scheme (j .instance) .fixed (sealingOf (j .direction)) (j .assoc) (j .text))
-
-  pub can-move : Standing (j .instance) (sealingOf (j .direction)) (j .assoc) (j .text) (j .place) count
-  unfolding shapesOf
-  can-move = record { assocLimit = h .assocLimit; textLimit = h .textLimit; isPart = is-part; isCall = there .isCall; isRound = h .fits }
-
   pub done-fits : j .done + count ≤ mostRounds
   done-fits = omega (arith, up-to schemeOf lawful-scheme j assoc text out count h, total-of j (h .assocLimit) (h .textLimit))
 
   pub both-fit : (front back : ℕ) → Timed schemeOf j front back → front + back ≤ mostRounds
   both-fit front back t = omega (arith, t .frontIs, t .backIs, total-of j (h .assocLimit) (h .textLimit))
 
-  module _ (rounds : ℕ) (r : (a m : ℕ) → rounds ≡ shapeAt (allShapes (schemeOf (j .instance)) (sealingOf (j .direction)) a m) (j .place .part) .rounds) where
+  module _ (rounds : ℕ) (r : rounds ≡ roundsAt schemeOf j) where
     pub within : j .place .round + count ≤ rounds
+    within = omega (arith, h .fits, r)
+
+    pub can-move : (Standing (j .instance) (sealingOf (j .direction)) (j .assoc) (j .text) (j .place) count) × (rounds ≡ shapeAt (allShapes (schemeOf (j .instance)) (sealingOf (j .direction)) (j .assoc) (j .text)) (j .place .part) .rounds)
     unfolding shapesOf
-    within = omega (arith, h .fits, r (j .assoc) (j .text))
+    can-move = (record { assocLimit = h .assocLimit; textLimit = h .textLimit; isPart = is-part j there; isCall = there .isCall; isRound = h .fits }, r)
 
     module _ (front back : ℕ) (t : Timed schemeOf j front back) (s ss state out′ tag : List ℕ) (m : Meets schemeOf j assoc text out s ss) (ts : calls.Turns (schemeOf (j .instance)) (sealingOf (j .direction)) (j .key) (j .place .part) (j .place .round) count s ss state)
         (l : Left schemeOf j (eqb (j .place .round + count) rounds) assoc text out state out′ tag)
@@ -88,13 +84,9 @@ module _ (j : Job) (assoc text out : List ℕ) (count : ℕ) (h : Ready schemeOf
           let e = sym (h .placeIs) in
           pl (j .done) (subst (λ (n : ℕ). j .done < n) (sym (total-is schemeOf lawful-scheme j)) (h .inside)) (λ i. places.place (e i .part) (e i .call) (e i .round))
 
-      of-call : rounds ≡ shapeAt (shapesOf schemeOf j) (j .place .part) .rounds
-      unfolding shapesOf
-      of-call = r (j .assoc) (j .text)
-
       pub together : (y : Job) → y ≡ changed j tag (j .done + count) w ending state ss → Turned schemeOf j assoc text out count y out′
       together y e =
           turned-of schemeOf lawful-scheme j assoc text out count h u
           (turn-steps schemeOf lawful-scheme j assoc text out count h u
-          (gone-by schemeOf j assoc text out count rounds (of-call ∙ sym (rounds-now schemeOf lawful-scheme j assoc text out count h)) s ss state out′ tag m ts l)) y
+          (gone-by schemeOf j assoc text out count rounds (r ∙ sym (rounds-now schemeOf lawful-scheme j assoc text out count h)) s ss state out′ tag m ts l)) y
           (e ∙ (λ i. changed j tag (j .done + count) (place-is i) (ending-is i) state ss)) out′ refl long

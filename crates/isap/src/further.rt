@@ -1,4 +1,5 @@
 // How far a job can go in one go: some whole calls of a part that has many, or some rounds of one call.
+ghost use mathlib.Core.Path.{_≡_};
 ghost use Prim.Native.Nat.{_*_, _≤_, _<_};
 ghost use Rattle.instances.specs.Schemes.{schemeOf};
 ghost use Rattle.instances.specs.Limits.{mostAssoc, mostText};
@@ -10,9 +11,9 @@ use crate::turns::changed;
 use crate::turns::turn;
 use plan::Place;
 
-// The whole calls that the budget allows, up to the last of the part, or 0 where a single call is next.
-fn row_calls(job: Job, left: u32) -> u32
-    requires { ⌜ (At schemeOf job (job .place)) × (job .assoc ≤ mostAssoc) × (job .text ≤ mostText) ⌝ }
+// The whole calls, of `rounds` rounds each, that the budget allows, up to the last of the part, or 0 where a single call is next.
+fn row_calls(job: Job, rounds: u32, left: u32) -> u32
+    requires { ⌜ (At schemeOf job (job .place)) × (job .assoc ≤ mostAssoc) × (job .text ≤ mostText) × (rounds ≡ roundsAt schemeOf job) ⌝ }
     ensures { λ r. ⌜ Rows schemeOf job left r ⌝ }
 {
     let at = job.place;
@@ -28,7 +29,7 @@ fn row_calls(job: Job, left: u32) -> u32
     }
     let last = plan::count_at(job.instance, sealing, job.assoc, job.text, at.part) - 1;
     let calls = last - at.call;
-    let fit = left / plan::rounds_at(job.instance, sealing, at.part);
+    let fit = left / rounds;
     if fit < calls { fit } else { calls }
 }
 
@@ -57,14 +58,13 @@ fn state_after(job: Job, assoc: &[u8], text: &[u8], out: &mut [u8], calls: u32) 
 }
 
 // The record after these calls.
-fn row(job: Job, assoc: &[u8], text: &[u8], out: &mut [u8], calls: u32) -> Job
-    requires { ⌜ (Fresh schemeOf job (now assoc) (now text) (now out)) × (Many schemeOf job calls) ⌝ }
+fn row(job: Job, assoc: &[u8], text: &[u8], out: &mut [u8], rounds: u32, calls: u32) -> Job
+    requires { ⌜ (Fresh schemeOf job (now assoc) (now text) (now out)) × (Many schemeOf job calls) × (rounds ≡ roundsAt schemeOf job) ⌝ }
     ensures { λ r. ⌜ Turned schemeOf job (now (assoc .entry)) (now (text .entry)) (now (out .entry)) (calls * roundsAt schemeOf job) r (now (out .exit)) ⌝ }
 {
     let state = state_after(job, assoc, text, out, calls);
-    let sealing = job.direction == 1;
     let at = job.place;
-    let done = job.done + calls * plan::rounds_at(job.instance, sealing, at.part);
+    let done = job.done + calls * rounds;
     let place = Place {
         part: at.part,
         call: at.call + calls,
@@ -76,13 +76,12 @@ fn row(job: Job, assoc: &[u8], text: &[u8], out: &mut [u8], calls: u32) -> Job
 }
 
 // The rounds that can be done in one go: what is left of the call, or of the budget.
-fn rounds_now(job: Job, left: u32) -> u32
-    requires { ⌜ (At schemeOf job (job .place)) × (0 < left) ⌝ }
+fn rounds_now(job: Job, rounds: u32, left: u32) -> u32
+    requires { ⌜ (At schemeOf job (job .place)) × (0 < left) × (rounds ≡ roundsAt schemeOf job) ⌝ }
     ensures { λ r. ⌜ (r ≤ left) × (0 < r) × (Rest schemeOf job r) ⌝ }
 {
     let at = job.place;
-    let sealing = job.direction == 1;
-    let rest = plan::rounds_at(job.instance, sealing, at.part) - at.round;
+    let rest = rounds - at.round;
     if left < rest { left } else { rest }
 }
 
@@ -99,10 +98,13 @@ pub fn further(
     requires { ⌜ (Fresh schemeOf job (now assoc) (now text) (now out)) × (Timed schemeOf job front back) × (0 < left) ⌝ }
     ensures { λ r. ⌜ Further schemeOf job (now (assoc .entry)) (now (text .entry)) (now (out .entry)) left r (now (out .exit)) ⌝ }
 {
-    let calls = row_calls(job, left);
+    let sealing = job.direction == 1;
+    let at = job.place;
+    let rounds = plan::rounds_at(job.instance, sealing, at.part);
+    let calls = row_calls(job, rounds, left);
     if 0 < calls {
-        return row(job, assoc, text, out, calls);
+        return row(job, assoc, text, out, rounds, calls);
     }
-    let count = rounds_now(job, left);
-    turn(job, assoc, text, out, count, front, back)
+    let count = rounds_now(job, rounds, left);
+    turn(job, assoc, text, out, rounds, count, front, back)
 }

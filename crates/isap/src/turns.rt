@@ -6,6 +6,7 @@ ghost use Rattle.isap.specs.Records.{changed as changedTo};
 ghost use Rattle.instances.specs.Limits.{mostRounds};
 ghost use Rattle.isap.specs.Turns.{Here, Ready, Meets, Left, Ends};
 ghost use Rattle.isap.specs.Sofar.{Timed, Turned};
+ghost use Rattle.isap.specs.Rows.{roundsAt};
 use crate::Job;
 use plan::Place;
 use strings::Two;
@@ -120,31 +121,39 @@ pub fn changed(
     }
 }
 
-// The record after `count` rounds more, all of one call.
+// The record after `count` rounds more, all of one call, which has `rounds`.
 pub fn turn(
     job: Job,
     assoc: &[u8],
     text: &[u8],
     out: &mut [u8],
+    rounds: u32,
     count: u32,
     front: u32,
     back: u32,
 ) -> Job
-    requires { ⌜ (Ready schemeOf job (now assoc) (now text) (now out) count) × (Timed schemeOf job front back) ⌝ }
+    requires { ⌜ (Ready schemeOf job (now assoc) (now text) (now out) count) × (Timed schemeOf job front back) × (rounds ≡ roundsAt schemeOf job) ⌝ }
     ensures { λ r. ⌜ Turned schemeOf job (now (assoc .entry)) (now (text .entry)) (now (out .entry)) count r (now (out .exit)) ⌝ }
 {
     let sealing = job.direction == 1;
     let at = job.place;
-    let of_call = plan::rounds_at(job.instance, sealing, at.part);
     let two = entered(job, assoc, text, &out[..]);
     let met = two.state;
     let session = two.session;
     let key = job.key;
     let state = calls::rounds(job.instance, sealing, at, key, met, session, count);
-    let last = at.round + count == of_call;
+    let last = at.round + count == rounds;
     let tag = left_behind(job, last, state, assoc, text, out);
     let done = job.done + count;
     let ending = ending_after(job, done, front, back, tag, state, session);
-    let place = plan::moved(job.instance, sealing, job.assoc, job.text, at, count);
+    let place = plan::moved(
+        job.instance,
+        sealing,
+        job.assoc,
+        job.text,
+        at,
+        rounds,
+        count,
+    );
     changed(job, tag, done, place, ending, state, session)
 }

@@ -3,7 +3,7 @@ ghost use mathlib.Core.Path.{_≡_};
 ghost use Prim.Native.Nat.{ℕ, _+_, _≤_, _<_};
 ghost use Rattle.stopping.specs.Parts.{roundsIn};
 ghost use Rattle.stopping.specs.PlaceLaws.{startOf};
-ghost use Rattle.stopping.specs.Places.{place, placeOf};
+ghost use Rattle.stopping.specs.Places.{place, placeOf, shapeAt};
 ghost use Rattle.scheme.specs.Scheme.{allShapes, partsOf};
 ghost use Rattle.instances.specs.Schemes.{schemeOf};
 ghost use Rattle.instances.specs.Limits.{mostAssoc, mostText};
@@ -11,7 +11,6 @@ ghost use Rattle.plan.specs.Planned.{placed, Standing};
 use crate::places::Place;
 use crate::shapes::count_at;
 use crate::shapes::parts_of;
-use crate::shapes::rounds_at;
 
 // The first place of the parts from `part` on: parts without calls are passed over.
 pub fn first_from(instance: u32, sealing: bool, a: u32, m: u32, part: u32) -> Place
@@ -37,13 +36,20 @@ pub fn first_from(instance: u32, sealing: bool, a: u32, m: u32, part: u32) -> Pl
     }
 }
 
-// The place after `count` rounds more of the call at which `at` stands.
-pub fn moved(instance: u32, sealing: bool, a: u32, m: u32, at: Place, count: u32) -> Place
-    requires { ⌜ Standing instance sealing a m at count ⌝ }
+// The place after `count` rounds more of the call at which `at` stands, which has `rounds`.
+pub fn moved(
+    instance: u32,
+    sealing: bool,
+    a: u32,
+    m: u32,
+    at: Place,
+    rounds: u32,
+    count: u32,
+) -> Place
+    requires { ⌜ (Standing instance sealing a m at count) × (rounds ≡ shapeAt (allShapes (schemeOf instance) sealing a m) (at .part) .rounds) ⌝ }
     ensures { λ r. ⌜ ((n : ℕ) → n < roundsIn (allShapes (schemeOf instance) sealing a m) → placeOf (allShapes (schemeOf instance) sealing a m) n ≡ place (at .part) (at .call) (at .round) → r ≡ placed (placeOf (allShapes (schemeOf instance) sealing a m) (n + count))) ⌝ }
 {
     let part = at.part;
-    let rounds = rounds_at(instance, sealing, part);
     let round = at.round + count;
     if round < rounds {
         return Place {

@@ -7,6 +7,7 @@ ghost use Rattle.instances.specs.Schemes.{schemeOf};
 ghost use Rattle.instances.specs.Limits.{mostAssoc, mostText};
 ghost use Rattle.plan.specs.Planned.{placed};
 use crate::shapes::count_at;
+use crate::shapes::is_spook;
 use crate::shapes::parts_of;
 use crate::shapes::rounds_at;
 
@@ -16,8 +17,8 @@ pub struct Place {
     pub round: u32,
 }
 
-// Where a job stands after n rounds; at its end, past the last part.
-pub fn place_after(instance: u32, sealing: bool, a: u32, m: u32, n: u32) -> Place
+// The walk over the parts.
+fn walked(instance: u32, sealing: bool, a: u32, m: u32, n: u32) -> Place
     requires { ⌜ (a ≤ mostAssoc) × (m ≤ mostText) ⌝ }
     ensures { λ r. ⌜ r ≡ placed (placeOf (allShapes (schemeOf instance) sealing a m) n) ⌝ }
 {
@@ -42,4 +43,16 @@ pub fn place_after(instance: u32, sealing: bool, a: u32, m: u32, n: u32) -> Plac
         call: 0,
         round: 0,
     }
+}
+
+// Where a job stands after n rounds; at its end, past the last part. The scheme is asked for before the walk: each of the two walks is then
+// compiled for one scheme, and does not ask again at every part.
+pub fn place_after(instance: u32, sealing: bool, a: u32, m: u32, n: u32) -> Place
+    requires { ⌜ (a ≤ mostAssoc) × (m ≤ mostText) ⌝ }
+    ensures { λ r. ⌜ r ≡ placed (placeOf (allShapes (schemeOf instance) sealing a m) n) ⌝ }
+{
+    if is_spook(instance) {
+        return walked(5, sealing, a, m, n);
+    }
+    walked(instance, sealing, a, m, n)
 }

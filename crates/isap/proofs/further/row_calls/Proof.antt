@@ -33,31 +33,29 @@ sub-last c = let z = c .before .before .before .before .before .before .before .
 sub-calls : tie.Need-sub-calls
 sub-calls c = let z = c .before .before .before .before .before .before .before .before .before .before in let n = c .before .count-at in omega (arith, below (z .args .job) (z .pre .0) (n .result) (n .ensures .0))
 
-rounds-at-requires : tie.Need-rounds-at-requires
-rounds-at-requires c κs = let z = c .before .before .before .before .before .before .before .before .before .before in is-part (z .args .job) (z .pre .0)
+div-fit : tie.Need-div-fit
+div-fit c = let z = c .before .before .before .before .before .before .before .before .before .before in omega (arith, z .pre .3, z .pre .0 .isRound)
 
 returns-4 : tie.Need-returns-4
 returns-4 c =
-    let r = c .before .rounds-at in
-    let n = c .before .before .before .count-at in
-    let k = c .before .before .before .before .before .has-row in
-    let z = c .before .before .before .before .before .before .before .before .before .before .before .before in
+    let n = c .before .before .count-at in
+    let k = c .before .before .before .before .has-row in
+    let z = c .before .before .before .before .before .before .before .before .before .before .before in
     let a = z .args in
     let there = below (a .job) (z .pre .0) (n .result) (n .ensures .0) in
-    chosen (a .job) (a .left) (r .result) (r .ensures .0) (c .before .before .before .before .before .before .before .before .before .if1 .left) (c .before .before .before .before .before .before .before .if2 .left) (sym (k .ensures) ∙ not-false _ (c .before .before .before .before .if3 .left)) (n .result) (n .ensures .0) (n .ensures .1)
-    (a .left / r .result) (omega (arith, c .if4 .taken, there)) (omega (arith, there)) (div-mul-le-self (a .left) (r .result))
+    chosen (a .job) (a .left) (a .rounds) (z .pre .3) (c .before .before .before .before .before .before .before .before .if1 .left) (c .before .before .before .before .before .before .if2 .left) (sym (k .ensures) ∙ not-false _ (c .before .before .before .if3 .left)) (n .result) (n .ensures .0) (n .ensures .1)
+    (a .left / a .rounds) (omega (arith, c .if4 .taken, there)) (omega (arith, there)) (div-mul-le-self (a .left) (a .rounds))
 
 returns-5 : tie.Need-returns-5
 returns-5 c =
-    let r = c .before .rounds-at in
-    let n = c .before .before .before .count-at in
-    let k = c .before .before .before .before .before .has-row in
-    let z = c .before .before .before .before .before .before .before .before .before .before .before .before in
+    let n = c .before .before .count-at in
+    let k = c .before .before .before .before .has-row in
+    let z = c .before .before .before .before .before .before .before .before .before .before .before in
     let a = z .args in
     let there = below (a .job) (z .pre .0) (n .result) (n .ensures .0) in
     let calls : ℕ = n .result - 1 - a .job .place .call in
-    chosen (a .job) (a .left) (r .result) (r .ensures .0) (c .before .before .before .before .before .before .before .before .before .if1 .left) (c .before .before .before .before .before .before .before .if2 .left) (sym (k .ensures) ∙ not-false _ (c .before .before .before .before .if3 .left)) (n .result) (n .ensures .0) (n .ensures .1)
-    calls (omega (arith, there)) (omega (arith, there)) (le-trans (mul-le-mul-right (r .result) (c .if4 .left)) (div-mul-le-self (a .left) (r .result)))
+    chosen (a .job) (a .left) (a .rounds) (z .pre .3) (c .before .before .before .before .before .before .before .before .if1 .left) (c .before .before .before .before .before .before .if2 .left) (sym (k .ensures) ∙ not-false _ (c .before .before .before .if3 .left)) (n .result) (n .ensures .0) (n .ensures .1)
+    calls (omega (arith, there)) (omega (arith, there)) (le-trans (mul-le-mul-right (a .rounds) (c .if4 .left)) (div-mul-le-self (a .left) (a .rounds)))
 
 pub row-calls-spec : {M : Type 1} → statement M
 row-calls-spec =
@@ -70,7 +68,6 @@ row-calls-spec =
     count-at-requires
     sub-last
     sub-calls
-    rounds-at-requires
-    (λ c. search needs)
+    div-fit
     returns-4
     returns-5)
