@@ -34,46 +34,14 @@ pub fn enter(
     ensures { λ r. ⌜ Enters (schemeOf instance) (given sealing key nonce (now (assoc .entry)) (now (text .entry))) (at .part) (at .call) (machine state session (now (out .entry)) tag) (r .state) (r .session) ⌝ }
 {
     if plan::is_spook(instance) {
+        let two = Two { state, session };
         if sealing {
-            return spook::enter(
-                true,
-                at.part,
-                at.call,
-                nonce,
-                tag,
-                state,
-                session,
-                assoc,
-                text,
-                out,
-            );
+            return spook::enter(true, at.part, at.call, nonce, tag, two, assoc, text, out);
         }
         if at.part < 5 {
-            return spook::enter(
-                false,
-                at.part,
-                at.call,
-                nonce,
-                tag,
-                state,
-                session,
-                assoc,
-                text,
-                out,
-            );
+            return spook::enter(false, at.part, at.call, nonce, tag, two, assoc, text, out);
         }
-        return spook::enter(
-            sealing,
-            at.part,
-            at.call,
-            nonce,
-            tag,
-            state,
-            session,
-            assoc,
-            text,
-            out,
-        );
+        return spook::enter(sealing, at.part, at.call, nonce, tag, two, assoc, text, out);
     }
     of_isap::enter(
         instance,
@@ -81,7 +49,6 @@ pub fn enter(
         at,
         key,
         nonce,
-        tag,
         state,
         session,
         assoc,

@@ -21,7 +21,6 @@ pub fn enter(
     at: Place,
     key: [u8; 16],
     nonce: [u8; 16],
-    tag: [u8; 16],
     state: [u8; 64],
     session: [u8; 64],
     assoc: &[u8],
@@ -29,7 +28,7 @@ pub fn enter(
     out: &[u8],
 ) -> Two
     requires { ⌜ (At (isapScheme (paramsOf instance)) sealing (length (now assoc)) (length (now text)) (at .part) (at .call) (at .round)) × (length (now out) ≡ length (now text)) ⌝ }
-    ensures { λ r. ⌜ Enters (isapScheme (paramsOf instance)) (given sealing key nonce (now (assoc .entry)) (now (text .entry))) (at .part) (at .call) (machine state session (now (out .entry)) tag) (r .state) (r .session) ⌝ }
+    ensures { λ r. ⌜ ((tag : List ℕ) → Enters (isapScheme (paramsOf instance)) (given sealing key nonce (now (assoc .entry)) (now (text .entry))) (at .part) (at .call) (machine state session (now (out .entry)) tag) (r .state) (r .session)) ⌝ }
 {
     let kind = plan::kind_of(sealing, at.part);
     sponge::enter(

@@ -25,15 +25,16 @@ pub fn enter(
     call: u32,
     nonce: [u8; 16],
     tag: [u8; 16],
-    state: [u8; 64],
-    session: [u8; 64],
+    two: Two,
     assoc: &[u8],
     text: &[u8],
     out: &[u8],
 ) -> Two
     requires { ⌜ CanCall spook sealing part call (now assoc) (now text) (now out) ⌝ }
-    ensures { λ r. ⌜ ((key : List ℕ) → Enters spookScheme (given sealing key nonce (now (assoc .entry)) (now (text .entry))) part call (machine state session (now (out .entry)) tag) (r .state) (r .session)) ⌝ }
+    ensures { λ r. ⌜ ((key : List ℕ) → Enters spookScheme (given sealing key nonce (now (assoc .entry)) (now (text .entry))) part call (machine (two .state) (two .session) (now (out .entry)) tag) (r .state) (r .session)) ⌝ }
 {
+    let state = two.state;
+    let session = two.session;
     let s = enters::enter_state(sealing, part, call, nonce, tag, state, assoc, text, out);
     let z = enters::enter_session(part, state, session);
     Two {

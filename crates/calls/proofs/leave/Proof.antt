@@ -1,11 +1,12 @@
 -- `calls::leave` meets its contract: the scheme's own code does, in either case.
 -- Assumes nothing.
-use mathlib.Core.Path.{subst}
+use mathlib.Core.Path.{refl, subst}
 use lib.ListN.{length}
 use borrow.Author.Needs.{needs}
 use Rattle.scheme.specs.Scheme.{Scheme}
 use Rattle.scheme.specs.Calls.{At}
 use Rattle.calls.proofs.Dispatch.{is-spook, is-isap, leaves-by}
+use Rattle.calls.proofs.SpookCalls.{can-call}
 use Rattle.calls.proofs.leave.Statement.{statement}
 use Rattle.calls.proofs.leave.Tie as tie
 
@@ -14,9 +15,8 @@ leave-requires c κs =
     let t = c .before in
     let z = c .before .before .before .before .before .before in
     let a = z .args in
-    let e = is-spook (a .instance) _ (t .before .is-spook .ensures) (t .if1 .taken) in
-    let at = subst (λ (s : Scheme). At s (a .sealing) (length (a .assoc .now)) (length (a .text .now)) (a .at .part) (a .at .call) (a .at .round)) e (z .pre .0) in
-    record { isPart = at .isPart; isCall = at .isCall; outLong = z .pre .1 }
+    can-call (is-spook (a .instance) _ (t .before .is-spook .ensures) (t .if1 .taken)) refl
+    (a .at .part) (a .at .call) (a .at .round) (a .assoc .now) (a .text .now) (a .out .now) (z .pre .0) (z .pre .1)
 
 returns : tie.Need-returns
 returns c =

@@ -21,12 +21,12 @@ enter-requires c κs =
     (z .pre .0) (z .pre .1) (k .ensures .1)
 
 returns : tie.Need-returns
-returns c =
+returns c tag =
     let k = c .before .kind-of in
     let z = c .before .before .before .before .before in
     let a = z .args in
     let h = of-eleven (a .instance) (a .sealing) (a .at .part) (length (a .assoc .now)) (length (a .text .now)) (z .pre .0 .isPart) in
-    enters (a .instance) (a .sealing) (a .at .part) (k .result) (k .ensures .0) h (a .at .call) (a .key) (a .nonce) (a .assoc .now) (a .text .now) (a .state) (a .session) (a .out .now) (a .tag)
+    enters (a .instance) (a .sealing) (a .at .part) (k .result) (k .ensures .0) h (a .at .call) (a .key) (a .nonce) (a .assoc .now) (a .text .now) (a .state) (a .session) (a .out .now) tag
     (c .enter .result .state) (c .enter .result .session) (c .enter .ensures)
 
 pub enter-spec : {M : Type 1} → statement M
