@@ -15,7 +15,6 @@ use Rattle.s1p.specs.Paper as paper
 use Rattle.s1p.specs.Parts.{unlessEmpty}
 use Rattle.s1p.specs.Counts as s1p
 use Rattle.s1p.specs.Scheme.{s1pScheme}
-use Rattle.s1p.specs.Spook.{spookScheme}
 use Rattle.instances.specs.Schemes.{isSpook, schemeOf, by-scheme}
 
 -- bytes of associated data and of text
@@ -54,11 +53,6 @@ both-most i a m ha hm =
 pub blocks-most : (i m : ℕ) → m ≤ mostText → blocks (paramsOf i) m ≤ mostText / 8
 unfolding blocks isapA128a isapA128 isapK128a isapK128
 blocks-most i m hm = by-instance (λ p. blocks p m ≤ mostText / 8) (omega arith) (omega arith) (omega arith) (omega arith) i
-
--- Spook's blocks have 32 bytes
-pub walk-most : (m : ℕ) → m ≤ mostText → paper.blocks m ≤ mostText / 8
-unfolding paper.blocks
-walk-most m hm = omega arith
 
 pub spook-most : (b : Bool) (a m : ℕ) → a ≤ mostAssoc → m ≤ mostText → s1p.verifyRounds a m + s1p.backCount b a m ≤ mostVerify
 unfolding s1p.verifyRounds s1p.backCount s1p.secondRounds paper.blocks unlessEmpty

@@ -12,7 +12,7 @@ use Rattle.mode.specs.InstanceLaws.{by-instance, lawful-instance}
 use Rattle.mode.specs.Instances.{isapA128a, isapA128, isapK128a, isapK128, paramsOf}
 use Rattle.mode.specs.Isap.{isapScheme, lawful-isap}
 use Rattle.s1p.specs.Scheme.{s1pScheme}
-use Rattle.s1p.specs.Spook.{spook, spookScheme, lawful-spook}
+use Rattle.s1p.specs.Spook.{spookScheme, lawful-spook}
 
 -- 1 to 4 are ISAP's, 5 is Spook
 unfoldable pub known : ℕ → Bool

@@ -5,10 +5,8 @@ use mathlib.Core.Bool.{Bool, true, false}
 use Prim.Native.Nat.{ℕ, zero, suc, _-_, _≤_, _<_}
 use native.Mathlib.Omega.{arith}
 use lib.Dec.{eqb, ltb}
-use lib.ListN.{length}
 use Rattle.bits.specs.Pick.{pick}
 use Rattle.bits.specs.Every.{upto-at}
-use Rattle.stopping.specs.Parts.{Shape}
 use Rattle.stopping.specs.Places.{shapeAt}
 use Rattle.scheme.specs.Scheme.{allShapes, partsOf}
 use Rattle.s1p.specs.Cipher.{Cipher}

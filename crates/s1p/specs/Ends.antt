@@ -10,10 +10,9 @@ use lib.Seq.{take-all}
 use Rattle.bits.specs.Run.{turns, front}
 use Rattle.bits.specs.Put.{put, putAt}
 use Rattle.bits.specs.Strings.{cut}
-use Rattle.stopping.specs.Stopped.{whole}
 use Rattle.stopping.specs.Rows.{run, calls}
 use Rattle.stopping.specs.Parts.{Part, partRow, row}
-use Rattle.scheme.specs.Machine.{Machine, Input, machine, first, Exact}
+use Rattle.scheme.specs.Machine.{Machine, Input, machine, Exact}
 use Rattle.s1p.specs.Cipher.{Cipher, LawfulCipher, encrypt, decrypt}
 use Rattle.s1p.specs.Paper.{blocks, parsed, textMark, marked, required, closingTweak, textOut, lastState, tagOf}
 use Rattle.s1p.specs.Parts.{unlessEmpty, seed, begin, assocs, texts, setAside, tagged, tagging, verifying, walk, sealParts, verifyParts, openParts}

@@ -114,14 +114,6 @@ module _ (p : Cipher) (l : LawfulCipher p) where
         length-outsAll b k (drop 32 t) s₁ (length-taken b (take 32 t) s (small-block t) h) (omega (arith, length-drop 32 t)),
       )
 
-  bytes-outsAll : (b : Bool) (k : ℕ) (t s : List ℕ) → length s ≡ 64 → Bytes t → Bytes s → Bytes (outsAll p b (cut 32 k t) s)
-  unfolding outsAll cut
-  bytes-outsAll b zero t s h x y = no-bytes
-  bytes-outsAll b (suc k) t s h x y =
-      bytes-append (bytes-xors s (take 32 t) y (bytes-take 32 x))
-      (bytes-outsAll b k (drop 32 t) (taken p b (take 32 t) s) (length-taken b (take 32 t) s (small-block t) h) (bytes-drop 32 x)
-      (bytes-taken b (take 32 t) s (small-block t) h (bytes-take 32 x) y))
-
   length-marked : (ms : List (List ℕ)) (s : List ℕ) → length s ≡ 64 → length (marked ms s) ≡ 64
   unfolding marked
   length-marked [] s h = h
@@ -317,14 +309,6 @@ module _ (p : Cipher) (l : LawfulCipher p) where
       bytes-before =
           bytes-marked (parsed m) (behind p key nonce a)
           (bytes-absorbAll (blocks (length a)) a (start p key nonce) (length-start p l key nonce hn) ba (bytes-start p l key nonce hn bn))
-
-      pub textOut-kept : Buffer (length m) (textOut p b key nonce a m)
-      unfolding parsed before
-      textOut-kept =
-          record {
-            long = length-textOut b m;
-            bytes = subst Bytes (sym (textOut-is b m)) (bytes-outsAll b (blocks (length m)) m (before m) (length-before m) bm bytes-before);
-          }
 
       pub lastState-kept : Buffer 64 (lastState p b key nonce a m)
       unfolding parsed before

@@ -15,7 +15,7 @@ use Rattle.bits.specs.Put.{put, putAt, length-put, put-within}
 use Rattle.bits.specs.Xors.{xors-front}
 use Rattle.bits.specs.Strings.{xorInto, xorAt, block}
 use Rattle.bits.specs.StringLaws.{length-xorAt, length-block, xorInto-front, xorAt-front}
-use Rattle.scheme.specs.Machine.{Machine, Input, onState, first, nothing, cipherOf, with-tails, Exact}
+use Rattle.scheme.specs.Machine.{Machine, Input, onState, first, cipherOf, with-tails, Exact}
 use Rattle.scheme.specs.Blind.{Blind, BlindPart, BlindParts, first-within, blind-none, state-blind}
 use Rattle.s1p.specs.Cipher.{Cipher, LawfulCipher}
 use Rattle.s1p.specs.Paper.{blocks, iv, textMark, shortMark, padded, lastData, lastText, closingTweak}

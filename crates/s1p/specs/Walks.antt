@@ -22,10 +22,10 @@ use Rattle.stopping.specs.Parts.{Part, callOf, partRow, row}
 use Rattle.scheme.specs.Machine.{Machine, Input, machine, first, cipherOf, Exact}
 use Rattle.s1p.specs.Cipher.{Cipher, LawfulCipher, encrypt, perm}
 use Rattle.s1p.specs.Paper.{blocks, parsed, iv, start, textMark, lastData, cipherBlock, lastText, marked, textOut, lastState}
-use Rattle.s1p.specs.Parts.{written, due, next, seeded, seed, begin, assocs, texts, walk}
+use Rattle.s1p.specs.Parts.{written, due, next, seeded, seed, begin, assocs, texts}
 use Rattle.s1p.specs.Laws.{small-block, put-all, turns-front, turns-all, length-lastData, length-lastText, length-out, length-encrypt, length-perm, length-first, length-start}
 use Rattle.s1p.specs.Evenly.{absorbAll, taken, endsAll, outsAll, behind, length-taken, outsAll-none, length-behind, textOut-is, lastState-is, length-textOut}
-use Rattle.s1p.specs.Calls.{block-putAt, put-both, whole-is, not-due, and-then, done, first-none, first-some, length-first-mark, xors-first-mark}
+use Rattle.s1p.specs.Calls.{block-putAt, put-both, whole-is, not-due, and-then, first-none, first-some, length-first-mark, xors-first-mark}
 
 -- 16 bytes, then 48 zeros: the state within a Clyde call
 unfoldable pub clydeState : List ℕ → List ℕ

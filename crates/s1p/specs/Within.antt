@@ -17,13 +17,13 @@ use Rattle.bits.specs.Put.{put, put-front}
 use Rattle.stopping.specs.Stopped.{Call, stopped, broken, whole, stopped-short, stopped-past, stopped-zero}
 use Rattle.stopping.specs.Rows.{run, calls, stopped-back}
 use Rattle.stopping.specs.Parts.{Part, roundsIn, EachSome, callOf, partRow, row, shapes, row-append, total-row, some-row}
-use Rattle.stopping.specs.Course.{parts, accepted, halted}
+use Rattle.stopping.specs.Course.{accepted, halted}
 use Rattle.stopping.specs.Since.{halted-going}
 use Rattle.scheme.specs.Machine.{Machine, Input}
 use Rattle.scheme.specs.Lawful.{Ready}
 use Rattle.s1p.specs.Cipher.{Cipher, LawfulCipher, decrypt}
 use Rattle.s1p.specs.Paper.{lastState, required, closingTweak}
-use Rattle.s1p.specs.Parts.{unlessEmpty, seeded, seed, begin, assocs, texts, walk, setAside, tagged, tagging, verifying, verifyParts, openingCourse, course}
+use Rattle.s1p.specs.Parts.{unlessEmpty, seeded, seed, begin, assocs, texts, setAside, tagged, tagging, verifying, verifyParts, openingCourse, course}
 use Rattle.s1p.specs.Counts.{verifyRounds, lawful}
 use Rattle.s1p.specs.Scheme.{s1pScheme}
 use Rattle.s1p.specs.Laws.{turns-front, length-decrypt}

@@ -1,6 +1,6 @@
 -- `calls::has_row` meets its contract: the scheme's own code does, in either case.
 -- Assumes nothing.
-use mathlib.Core.Path.{_≡_, sym, ap, _∙_, subst}
+use mathlib.Core.Path.{sym, ap, _∙_, subst}
 use mathlib.Core.Bool.{Bool}
 use Prim.Native.Nat.{_<_}
 use borrow.Author.Needs.{needs}

@@ -4,7 +4,7 @@ use mathlib.Core.Path.{refl, sym, ap, _∙_}
 use borrow.Author.Needs.{needs}
 use Rattle.stopping.specs.Places.{placeOf}
 use Rattle.scheme.specs.Scheme.{Scheme, allShapes}
-use Rattle.instances.specs.Schemes.{isSpook, schemeOf, scheme-spook}
+use Rattle.instances.specs.Schemes.{isSpook, scheme-spook}
 use Rattle.plan.specs.Planned.{placed}
 use Rattle.plan.proofs.places.place_after.Statement.{statement}
 use Rattle.plan.proofs.places.place_after.Tie as tie

@@ -1,6 +1,6 @@
 -- `plan::walks::count_of` meets its contract: the first walk and the closing call, none for an empty text, the second walk.
 -- Assumes nothing.
-use mathlib.Core.Path.{_≡_, ap, _∙_}
+use mathlib.Core.Path.{_≡_, ap}
 use Prim.Native.Nat.{ℕ, _-_, _<_}
 use native.Mathlib.Omega.{arith}
 use borrow.Author.Needs.{needs}

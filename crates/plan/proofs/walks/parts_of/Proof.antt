@@ -1,7 +1,6 @@
 -- `plan::walks::parts_of` meets its contract.
 -- Assumes nothing.
 use native.Mathlib.Omega.{arith}
-use borrow.Author.Needs.{needs}
 use Rattle.plan.specs.Walks.{walkParts}
 use Rattle.plan.proofs.walks.parts_of.Statement.{statement}
 use Rattle.plan.proofs.walks.parts_of.Tie as tie

@@ -1,7 +1,7 @@
 -- `plan::walks::second_rounds` meets its contract: none for an empty text, else the request's formula.
 -- Assumes nothing.
-use mathlib.Core.Path.{_≡_, sym, _∙_}
-use Prim.Native.Nat.{ℕ, _+_, _*_}
+use mathlib.Core.Path.{sym, _∙_}
+use Prim.Native.Nat.{_+_, _*_}
 use borrow.Author.Needs.{needs}
 use Rattle.s1p.specs.Counts.{secondRounds}
 use Rattle.plan.specs.Walks.{empty-none, empty-not}

@@ -1,7 +1,6 @@
 -- `plan::walks::walk_calls` meets its contract, branch by branch.
 -- Assumes nothing.
 use native.Mathlib.Omega.{arith}
-use borrow.Author.Needs.{needs}
 use borrow.Author.Tests.{eq-eqb, ne-eqb}
 use Rattle.plan.specs.Walks.{walkCalls}
 use Rattle.plan.proofs.walks.walk_calls.Statement.{statement}
