@@ -6,6 +6,7 @@ ghost use Rattle.scheme.specs.Scheme.{allShapes};
 ghost use Rattle.instances.specs.Schemes.{schemeOf};
 ghost use Rattle.instances.specs.Limits.{mostAssoc, mostText};
 ghost use Rattle.plan.specs.Planned.{placed};
+use crate::shapes::SPOOK;
 use crate::shapes::count_at;
 use crate::shapes::is_spook;
 use crate::shapes::parts_of;
@@ -52,7 +53,7 @@ pub fn place_after(instance: u32, sealing: bool, a: u32, m: u32, n: u32) -> Plac
     ensures { λ r. ⌜ r ≡ placed (placeOf (allShapes (schemeOf instance) sealing a m) n) ⌝ }
 {
     if is_spook(instance) {
-        return walked(5, sealing, a, m, n);
+        return walked(SPOOK, sealing, a, m, n);
     }
     walked(instance, sealing, a, m, n)
 }

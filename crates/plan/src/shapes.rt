@@ -13,11 +13,13 @@ use crate::numbers::encrypt_rounds;
 use crate::numbers::verify_rounds;
 use crate::walks;
 
-// Whether an instance's scheme is Spook: 5 is, 1 to 4 are ISAP's.
+// The instance whose scheme is Spook; 1 to 4 are ISAP's.
+pub const SPOOK: u32 = 5;
+
 pub fn is_spook(instance: u32) -> bool
     ensures { λ r. ⌜ r ≡ isSpook instance ⌝ }
 {
-    instance == 5
+    instance == SPOOK
 }
 
 pub fn is_known(instance: u32) -> bool
