@@ -79,7 +79,7 @@ pub fn rounds(
         }
         return spook::rounds(sealing, at.part, key, state, session, at.round, count);
     }
-    of_isap::rounds(instance, sealing, at, key, state, session, count)
+    of_isap::rounds(instance, sealing, at, state, count)
 }
 
 // What the last round of the call leaves: in the output, and as the tag that is handed back.

@@ -56,17 +56,9 @@ fn index_of(instance: u32, rounds: u32, round: u32) -> u32
 }
 
 // The state after `count` rounds more of the call.
-pub fn rounds(
-    instance: u32,
-    sealing: bool,
-    at: Place,
-    key: [u8; 16],
-    state: [u8; 64],
-    session: [u8; 64],
-    count: u32,
-) -> [u8; 64]
+pub fn rounds(instance: u32, sealing: bool, at: Place, state: [u8; 64], count: u32) -> [u8; 64]
     requires { ⌜ Rest (isapScheme (paramsOf instance)) sealing (at .part) (at .round) count ⌝ }
-    ensures { λ r. ⌜ Turns (isapScheme (paramsOf instance)) sealing key (at .part) (at .round) count state session r ⌝ }
+    ensures { λ r. ⌜ ((key session : List ℕ) → Turns (isapScheme (paramsOf instance)) sealing key (at .part) (at .round) count state session r) ⌝ }
 {
     let kind = plan::kind_of(sealing, at.part);
     let of_call = plan::rounds_of(instance, kind);

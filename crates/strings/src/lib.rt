@@ -42,7 +42,7 @@ pub fn absorb(state: [u8; 64], part: &[u8]) -> [u8; 64]
 }
 
 // A block of text xored with the state's first bytes.
-pub fn write_block(out: &mut [u8], text: &[u8], state: [u8; 64])
+fn write_block(out: &mut [u8], text: &[u8], state: [u8; 64])
     requires { ⌜ (length (now out) ≡ length (now text)) × (length (now text) ≤ 64) ⌝ }
     ensures { λ _. ⌜ now (out .exit) ≡ xors state (now (text .entry)) ⌝ }
 {
@@ -82,7 +82,7 @@ pub fn same_front(sixteen: [u8; 16], state: [u8; 64]) -> bool
 }
 
 // Where a block ends that may be the last, short one.
-pub fn smaller(x: usize, y: usize) -> usize
+fn smaller(x: usize, y: usize) -> usize
     ensures { λ r. ⌜ r ≡ min x y ⌝ }
 {
     if x <= y { x } else { y }

@@ -62,7 +62,7 @@ returns-4 c =
     let t = c .before in
     let a = c .before .before .before .args in
     turns-by (is-isap (a .instance) _ (t .before .is-spook .ensures) (t .if1 .left)) (a .sealing)
-    (a .key) (a .at .part) (a .at .round) (a .count) (a .state) (a .session) (c .rounds4 .result) (c .rounds4 .ensures)
+    (a .key) (a .at .part) (a .at .round) (a .count) (a .state) (a .session) (c .rounds4 .result) (c .rounds4 .ensures (a .key) (a .session))
 
 pub rounds-spec : {M : Type 1} → statement M
 rounds-spec =

@@ -30,7 +30,7 @@ permute-requires c κs =
     omega (arith, w, u, c .index-of .ensures)
 
 returns : tie.Need-returns
-returns c =
+returns c key session =
     let i = c .before .index-of in
     let r = c .before .before .rounds-of in
     let k = c .before .before .before .kind-of in
@@ -38,7 +38,7 @@ returns c =
     let a = z .args in
     let h = of-eleven (a .instance) (a .sealing) (a .at .part) (z .pre .a) (z .pre .m) (z .pre .isPart) in
     turns-by (a .instance) (a .sealing) (a .at .part) (k .result) (k .ensures .0) h (r .result) (i .result) (a .at .round) (a .count) (k .ensures .1) (r .ensures .0) (i .ensures)
-    (a .key) (a .state) (a .session) (c .permute .result) (c .permute .ensures)
+    key (a .state) session (c .permute .result) (c .permute .ensures)
 
 pub rounds-spec : {M : Type 1} → statement M
 rounds-spec = tie.close (tie.spec kind-of-requires (λ c κs. c .kind-of .ensures .1) index-of-requires permute-requires returns)
