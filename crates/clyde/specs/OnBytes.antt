@@ -2,6 +2,7 @@
 -- the run on the bytes that they stand for.
 -- Assumes nothing.
 use mathlib.Core.Path.{_≡_, refl, sym, ap, _∙_}
+use mathlib.Core.Bool.{Bool, true, false}
 use mathlib.Core.List.{List, _++_}
 use Prim.Native.Nat.{ℕ, zero, suc, _+_, _-_, _%_, _^_, _≤_, _<_}
 use native.Mathlib.Nat.{mod-eq-of-lt}
@@ -11,6 +12,7 @@ use lib.ListN.{length, take, drop}
 use lib.Seq.{take-all}
 use Rattle.bits.specs.Bytes.{Bytes, Buffer, bytes-take, bytes-drop, bytes-append}
 use Rattle.bits.specs.LittleEndian.{leBytes, fromLe, bytes-leBytes, fromLe-lt, fromLe-leBytes, leBytes-fromLe}
+use Rattle.bits.specs.Pick.{pick}
 use Rattle.bits.specs.Part.{length-part, parts, parts-take}
 use Rattle.bits.specs.Run.{turns, rounds, Keeps}
 use Rattle.clyde.specs.declared.Rows.{Rows}
@@ -25,6 +27,13 @@ clydeTurn k t i s = bytesOf (clydeRound (rowsOf k) (rowsOf t) i (rowsOf s))
 -- round i of its inverse, in the order of execution
 unfoldable pub clydeTurnBack : (key tweak : List ℕ) → ℕ → List ℕ → List ℕ
 clydeTurnBack k t i s = bytesOf (clydeRoundInverse (rowsOf k) (rowsOf t) i (rowsOf s))
+
+-- a round in either direction, as the code takes it: on rows, and on bytes
+abbrev pub roundBy : (back : Bool) → (k t : Rows) → ℕ → Rows → Rows
+roundBy back = pick back clydeRoundInverse clydeRound
+
+abbrev pub turnBy : (back : Bool) → (key tweak : List ℕ) → ℕ → List ℕ → List ℕ
+turnBy back = pick back clydeTurnBack clydeTurn
 
 -- ---- rows to bytes and back
 
@@ -130,3 +139,14 @@ module _ (k t : List ℕ) (hk : Buffer 16 k) (ht : Buffer 16 t) (from n : ℕ) (
   unfolding rounds clydeTurnBack
   backward-bytes =
       turns-bytes (λ i. clydeRoundInverse (rowsOf k) (rowsOf t) (from + i)) (λ i. backward-fit (block-fit hk) (block-fit ht) (from + i)) n s h
+
+-- ---- either direction
+
+pub keeps-by : (back : Bool) (k t : List ℕ) → Keeps 16 (turnBy back k t)
+keeps-by true = clyde-back-keeps
+keeps-by false = clyde-keeps
+
+pub bytes-by : (back : Bool) (k t : List ℕ) → Buffer 16 k → Buffer 16 t → (from n : ℕ) (s : Rows) → Fit s
+    → bytesOf (rounds (roundBy back (rowsOf k) (rowsOf t)) from n s) ≡ rounds (turnBy back k t) from n (bytesOf s)
+bytes-by true = backward-bytes
+bytes-by false = forward-bytes

@@ -13,7 +13,7 @@ ghost use Rattle.bits.specs.Rotate.{rotr};
 ghost use Rattle.bits.specs.Run.{rounds as Rounds, run as Run};
 ghost use Rattle.clyde.specs.Components.{add, sLayer, sInverse, lbox, lboxInverse, onPairs, W};
 ghost use Rattle.clyde.specs.Clyde.{rowsOf, bytesOf, TK, round as roundOf, roundInverse, first as firstOf, second as secondOf, clydeRound, clydeRoundInverse};
-ghost use Rattle.clyde.specs.OnBytes.{clydeTurn, clydeTurnBack};
+ghost use Rattle.clyde.specs.OnBytes.{roundBy, turnBy};
 
 pub struct Rows {
     pub x0: u32,
@@ -257,28 +257,26 @@ fn turn_back(k: Rows, t: Rows, s: Rows, i: u32) -> Rows
     )
 }
 
-// The rounds of the indices from `from` on, `count` of them.
-fn forward(k: Rows, t: Rows, s: Rows, from: u32, count: u32) -> Rows
-    requires { ⌜ from + count ≤ 12 ⌝ }
-    ensures { λ r. ⌜ r ≡ Rounds (clydeRound k t) from count s ⌝ }
+// Round i of a call in either direction, which alone steers the branch.
+fn turn_either(back: bool, k: Rows, t: Rows, s: Rows, i: u32) -> Rows
+    requires { ⌜ i < 12 ⌝ }
+    ensures { λ r. ⌜ r ≡ roundBy back k t i s ⌝ }
 {
-    let mut v = s;
-    let mut n: u32 = 0;
-    while n < count {
-        v = turn(k, t, v, from + n);
-        n += 1;
+    if back {
+        return turn_back(k, t, s, i);
     }
-    v
+    turn(k, t, s, i)
 }
 
-fn backward(k: Rows, t: Rows, s: Rows, from: u32, count: u32) -> Rows
+// The rounds of the indices from `from` on, `count` of them.
+fn run(back: bool, k: Rows, t: Rows, s: Rows, from: u32, count: u32) -> Rows
     requires { ⌜ from + count ≤ 12 ⌝ }
-    ensures { λ r. ⌜ r ≡ Rounds (clydeRoundInverse k t) from count s ⌝ }
+    ensures { λ r. ⌜ r ≡ Rounds (roundBy back k t) from count s ⌝ }
 {
     let mut v = s;
     let mut n: u32 = 0;
     while n < count {
-        v = turn_back(k, t, v, from + n);
+        v = turn_either(back, k, t, v, from + n);
         n += 1;
     }
     v
@@ -324,20 +322,18 @@ pub fn put_rows(s: &mut [u8], w: Rows)
     put_rows_at(s, 0, w);
 }
 
-// A run of Clyde-128's rounds on a buffer whose first 16 bytes are the state.
-pub fn forward_rounds(state: &mut [u8], key: &[u8], tweak: &[u8], from: u32, count: u32)
+// A run of the rounds of Clyde-128, or of its inverse, on a buffer whose first 16 bytes are the state.
+pub fn rounds(state: &mut [u8], back: bool, key: &[u8], tweak: &[u8], from: u32, count: u32)
     requires { ⌜ ((16 ≤ length (now state)) × (length (now key) ≡ 16)) × ((length (now tweak) ≡ 16) × (from + count ≤ 12)) ⌝ }
-    ensures { λ _. ⌜ now (state .exit) ≡ Run 16 (clydeTurn (now (key .entry)) (now (tweak .entry))) from count (now (state .entry)) ⌝ }
+    ensures { λ _. ⌜ now (state .exit) ≡ Run 16 (turnBy back (now (key .entry)) (now (tweak .entry))) from count (now (state .entry)) ⌝ }
 {
-    let w = forward(rows_of(key), rows_of(tweak), rows_of(state), from, count);
-    put_rows(state, w);
-}
-
-// The same of the inverse.
-pub fn backward_rounds(state: &mut [u8], key: &[u8], tweak: &[u8], from: u32, count: u32)
-    requires { ⌜ ((16 ≤ length (now state)) × (length (now key) ≡ 16)) × ((length (now tweak) ≡ 16) × (from + count ≤ 12)) ⌝ }
-    ensures { λ _. ⌜ now (state .exit) ≡ Run 16 (clydeTurnBack (now (key .entry)) (now (tweak .entry))) from count (now (state .entry)) ⌝ }
-{
-    let w = backward(rows_of(key), rows_of(tweak), rows_of(state), from, count);
+    let w = run(
+        back,
+        rows_of(key),
+        rows_of(tweak),
+        rows_of(state),
+        from,
+        count,
+    );
     put_rows(state, w);
 }

@@ -60,21 +60,16 @@ fn shadow_run(state: [u8; 66], from: u32, count: u32)
     show_run(from, count, s);
 }
 
-fn clyde_run(state: [u8; 66], key: [u8; 16], tweak: [u8; 16], from: u32, count: u32)
+fn clyde_run(back: bool, state: [u8; 66], key: [u8; 16], tweak: [u8; 16], from: u32, count: u32)
     requires { ⌜ from + count ≤ 12 ⌝ }
 {
     let mut s = state;
-    clyde::forward_rounds(&mut s, &key, &tweak, from, count);
-    io::write_all(STDOUT_FILENO, b"clyde-128 ");
-    show_run(from, count, s);
-}
-
-fn inverse_run(state: [u8; 66], key: [u8; 16], tweak: [u8; 16], from: u32, count: u32)
-    requires { ⌜ from + count ≤ 12 ⌝ }
-{
-    let mut s = state;
-    clyde::backward_rounds(&mut s, &key, &tweak, from, count);
-    io::write_all(STDOUT_FILENO, b"clyde-128-inverse ");
+    clyde::rounds(&mut s, back, &key, &tweak, from, count);
+    if back {
+        io::write_all(STDOUT_FILENO, b"clyde-128-inverse ");
+    } else {
+        io::write_all(STDOUT_FILENO, b"clyde-128 ");
+    }
     show_run(from, count, s);
 }
 
@@ -99,20 +94,12 @@ fn of_shadow(state: [u8; 66]) {
     shadow_run(state, 5, 7);
 }
 
-fn of_clyde(state: [u8; 66], key: [u8; 16], tweak: [u8; 16]) {
-    clyde_run(state, key, tweak, 0, 12);
-    clyde_run(state, key, tweak, 0, 1);
-    clyde_run(state, key, tweak, 1, 1);
-    clyde_run(state, key, tweak, 1, 4);
-    clyde_run(state, key, tweak, 5, 7);
-}
-
-fn of_inverse(state: [u8; 66], key: [u8; 16], tweak: [u8; 16]) {
-    inverse_run(state, key, tweak, 0, 12);
-    inverse_run(state, key, tweak, 0, 1);
-    inverse_run(state, key, tweak, 1, 1);
-    inverse_run(state, key, tweak, 1, 4);
-    inverse_run(state, key, tweak, 5, 7);
+fn of_clyde(back: bool, state: [u8; 66], key: [u8; 16], tweak: [u8; 16]) {
+    clyde_run(back, state, key, tweak, 0, 12);
+    clyde_run(back, state, key, tweak, 0, 1);
+    clyde_run(back, state, key, tweak, 1, 1);
+    clyde_run(back, state, key, tweak, 1, 4);
+    clyde_run(back, state, key, tweak, 5, 7);
 }
 
 fn case() {
@@ -124,8 +111,8 @@ fn case() {
     io::read_full(STDIN_FILENO, &mut tweak);
     of_isap(state);
     of_shadow(state);
-    of_clyde(state, key, tweak);
-    of_inverse(state, key, tweak);
+    of_clyde(false, state, key, tweak);
+    of_clyde(true, state, key, tweak);
 }
 
 fn main() {

@@ -2,9 +2,8 @@
 ghost use mathlib.Core.Path.{_≡_};
 ghost use Prim.Native.Nat.{_+_, _%_, _≤_};
 ghost use lib.ListN.{take, drop};
-ghost use Rattle.bits.specs.Pick.{pick};
 ghost use Rattle.bits.specs.Run.{run};
-ghost use Rattle.clyde.specs.OnBytes.{clydeTurn, clydeTurnBack};
+ghost use Rattle.clyde.specs.OnBytes.{turnBy};
 ghost use Rattle.shadow.specs.OnBytes.{shadowTurn};
 ghost use Rattle.s1p.specs.Paper.{closingTweak};
 ghost use Rattle.s1p.specs.Spook.{spook};
@@ -20,14 +19,10 @@ fn enciphered(
     count: u32,
 ) -> [u8; 64]
     requires { ⌜ from + count ≤ 12 ⌝ }
-    ensures { λ r. ⌜ r ≡ pick back (run 16 (clydeTurnBack key (take 16 (drop 16 wide))) from count state) (run 16 (clydeTurn key (take 16 (drop 16 wide))) from count state) ⌝ }
+    ensures { λ r. ⌜ r ≡ run 16 (turnBy back key (take 16 (drop 16 wide))) from count state ⌝ }
 {
     let mut s = state;
-    if back {
-        clyde::backward_rounds(&mut s, &key, &wide[16..32], from, count);
-        return s;
-    }
-    clyde::forward_rounds(&mut s, &key, &wide[16..32], from, count);
+    clyde::rounds(&mut s, back, &key, &wide[16..32], from, count);
     s
 }
 
