@@ -3,15 +3,17 @@
 -- Assumes nothing.
 use mathlib.Core.Path.{_≡_, refl, sym, ap, _∙_}
 use mathlib.Core.Bool.{Bool, true, false}
-use mathlib.Core.List.{List, _++_}
-use Prim.Native.Nat.{ℕ, zero, suc, _+_, _-_, _%_, _^_, _≤_, _<_}
+use mathlib.Core.List.{List, [], _∷_, _++_}
+use Prim.Native.Nat.{ℕ, zero, suc, _+_, _-_, _*_, _/_, _%_, _^_, _≤_, _<_}
 use native.Mathlib.Nat.{mod-eq-of-lt}
 use native.Mathlib.Omega.{arith}
 use lib.Dec.{eqb, lit≤}
-use lib.ListN.{length, take, drop}
-use lib.Seq.{take-all}
+use lib.ListN.{length, getD, take, drop}
+use lib.Seq.{take-all, getD-take, getD-drop}
+use Rattle.bits.specs.Digit.{bit}
+use Rattle.bits.specs.Every.{upto-at}
 use Rattle.bits.specs.Bytes.{Bytes, Buffer, bytes-take, bytes-drop, bytes-append}
-use Rattle.bits.specs.LittleEndian.{leBytes, fromLe, bytes-leBytes, fromLe-lt, fromLe-leBytes, leBytes-fromLe}
+use Rattle.bits.specs.LittleEndian.{leBytes, fromLe, bytes-leBytes, fromLe-lt, fromLe-leBytes, leBytes-fromLe, bit-fromLe}
 use Rattle.bits.specs.Pick.{pick}
 use Rattle.bits.specs.Part.{length-part, parts, parts-take}
 use Rattle.bits.specs.Run.{turns, rounds, Keeps}
@@ -34,6 +36,28 @@ roundBy back = pick back clydeRoundInverse clydeRound
 
 abbrev pub turnBy : (back : Bool) → (key tweak : List ℕ) → ℕ → List ℕ → List ℕ
 turnBy back = pick back clydeTurnBack clydeTurn
+
+-- ---- x[i, j] = B[32 i + j]
+
+abbrev pub row : Rows → ℕ → ℕ
+row x i = getD (x .x0 ∷ x .x1 ∷ x .x2 ∷ x .x3 ∷ []) i 0
+
+-- bit k of a string of bytes (section 3.1, BMAP)
+abbrev pub B : List ℕ → ℕ → Bool
+B s k = bit (getD s (k / 8) 0) (k % 8)
+
+pub row-bits : (s : List ℕ) → Bytes s → (i j : ℕ) → i < 4 → j < 32 → bit (row (rowsOf s) i) j ≡ B s (32 * i + j)
+unfolding rowsOf
+row-bits s h i j l hj =
+    upto-at (λ (i : ℕ). bit (row (rowsOf s) i) j ≡ B s (32 * i + j)) 4 ((((tt, place 0 0 refl), place 4 1 refl), place 8 2 refl), place 12 3 refl) i l
+  where
+    place : (m i : ℕ) → m ≡ 4 * i → bit (fromLe (take 4 (drop m s))) j ≡ B s (32 * i + j)
+    place m i e =
+        let p : m + j / 8 ≡ (32 * i + j) / 8 = omega arith in
+        let q : j % 8 ≡ (32 * i + j) % 8 = omega arith in
+        bit-fromLe (take 4 (drop m s)) (bytes-take 4 (bytes-drop m h)) j
+        ∙ ap (λ (b : ℕ). bit b (j % 8)) (getD-take 4 (drop m s) (j / 8) 0 (omega arith) ∙ getD-drop m s (j / 8) 0)
+        ∙ (λ a. bit (getD s (p a) 0) (q a))
 
 -- ---- rows to bytes and back
 

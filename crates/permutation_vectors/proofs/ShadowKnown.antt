@@ -7,12 +7,12 @@ use Rattle.bits.specs.Digit.{odd, bit}
 use Rattle.bits.specs.Number.{number}
 use Rattle.bits.specs.Rotate.{rotl}
 use Rattle.bits.specs.LittleEndian.{leBytes, fromLe}
-use Rattle.bits.specs.Run.{turns, rounds}
+use Rattle.bits.specs.Run.{turns}
 use Rattle.circulant.specs.Parity.{parity}
 use Rattle.circulant.specs.Circulant.{line, times}
 use Rattle.clyde.specs.Components.{add, sboxTable, sbox, column, substituted, sLayer, lbox, onPairs, registerStep, W}
 use Rattle.clyde.specs.Clyde.{rowsOf, bytesOf}
-use Rattle.shadow.specs.Shadow.{each, slLayer, matrix, dBit, dRow, dRows, dBundle, dLayer, shifted, withConstant, layers, round, shadow}
+use Rattle.shadow.specs.Shadow.{each, slLayer, matrix, dBit, dRow, dRows, dBundle, dLayer, shifted, withConstant, roundA, roundB, step, shadow}
 use Rattle.shadow.specs.OnBytes.{bundlesOf, bundleBytes}
 use Rattle.permutation_vectors.proofs.Counting.{counting}
 
@@ -24,5 +24,5 @@ pub counting-12 : bundleBytes (shadow (bundlesOf (counting 0 64))) ≡
     ∷ 0xbc ∷ 0x6e ∷ 0xe1 ∷ 0xbe ∷ 0x09 ∷ 0x2a ∷ 0x42 ∷ 0x68 ∷ 0xad ∷ 0x56
     ∷ 0xf0 ∷ 0x78 ∷ 0xcb ∷ 0x2b ∷ 0x87 ∷ 0x92 ∷ 0x44 ∷ 0x77 ∷ 0xcc ∷ 0x15
     ∷ 0xcd ∷ 0x56 ∷ 0x52 ∷ 0x38 ∷ []
-unfolding odd bit number rotl leBytes fromLe turns rounds parity line times add sboxTable sbox column substituted sLayer lbox onPairs registerStep W rowsOf bytesOf each slLayer matrix dBit dRow dRows dBundle dLayer shifted withConstant layers round shadow bundlesOf bundleBytes
+unfolding odd bit number rotl leBytes fromLe turns parity line times add sboxTable sbox column substituted sLayer lbox onPairs registerStep W rowsOf bytesOf each slLayer matrix dBit dRow dRows dBundle dLayer shifted withConstant roundA roundB step shadow bundlesOf bundleBytes
 counting-12 = refl

@@ -2,20 +2,23 @@
 -- bundles is the run on the bytes that they stand for.
 -- Assumes nothing.
 use mathlib.Core.Path.{_≡_, refl, sym, ap, _∙_}
-use mathlib.Core.List.{List, _++_, append-assoc}
-use Prim.Native.Nat.{ℕ, zero, suc, _+_, _≤_}
+use mathlib.Core.List.{List, [], _∷_, _++_, append-assoc}
+use Prim.Native.Nat.{ℕ, zero, suc, _+_, _*_, _/_, _%_, _≤_, _<_}
 use native.Mathlib.Omega.{arith}
 use lib.Dec.{lit≤}
-use lib.ListN.{length, take, drop, length-drop}
-use lib.Seq.{take-all}
+use lib.ListN.{length, getD, take, drop, length-drop}
+use lib.Seq.{take-all, getD-drop}
 use Rattle.bits.specs.Bytes.{Bytes, Buffer, bytes-drop, appended}
+use Rattle.bits.specs.Digit.{bit}
+use Rattle.bits.specs.Every.{upto-at}
 use Rattle.bits.specs.LittleEndian.{leBytes}
 use Rattle.bits.specs.Part.{parts, parts-take}
 use Rattle.bits.specs.Run.{turns, rounds, Keeps}
+use Rattle.clyde.specs.declared.Rows.{Rows}
 use Rattle.clyde.specs.Clyde.{rowsOf, bytesOf}
-use Rattle.clyde.specs.OnBytes.{rows-are, rowsOf-fit, rowsOf-bytesOf, bytesOf-rowsOf}
+use Rattle.clyde.specs.OnBytes.{row, B, row-bits, rows-are, rowsOf-fit, rowsOf-bytesOf, bytesOf-rowsOf}
 use Rattle.shadow.specs.declared.Bundles.{Bundles}
-use Rattle.shadow.specs.Shadow.{round, shadow}
+use Rattle.shadow.specs.Shadow.{round, shadow, shadow-rounds}
 use Rattle.shadow.specs.Fits.{Fits, round-fits}
 
 -- x[b, i, j] = B[128 b + 32 i + j]: bundle b is bytes 16 b to 16 b + 15
@@ -28,6 +31,31 @@ bundleBytes x = bytesOf (x .b0) ++ (bytesOf (x .b1) ++ (bytesOf (x .b2) ++ bytes
 -- round i of Shadow-512
 unfoldable pub shadowTurn : ℕ → List ℕ → List ℕ
 shadowTurn i s = bundleBytes (round i (bundlesOf s))
+
+-- ---- x[b, i, j] = B[128 b + 32 i + j]
+
+abbrev pub bundle : Bundles → ℕ → Rows
+bundle x b = getD (x .b0 ∷ x .b1 ∷ x .b2 ∷ x .b3 ∷ []) b (x .b0)
+
+pub bundle-bits : (s : List ℕ) → Bytes s → (b i j : ℕ) → b < 4 → i < 4 → j < 32
+    → bit (row (bundle (bundlesOf s) b) i) j ≡ B s (128 * b + 32 * i + j)
+unfolding bundlesOf
+bundle-bits s h b i j l hi hj =
+    upto-at (λ (b : ℕ). bit (row (bundle (bundlesOf s) b) i) j ≡ B s (128 * b + 32 * i + j)) 4 (
+      (
+        ((tt, row-bits s h i j hi hj ∙ place 0 (128 * 0) refl), row-bits (drop 16 s) (bytes-drop 16 h) i j hi hj ∙ place 16 (128 * 1) refl),
+        row-bits (drop 32 s) (bytes-drop 32 h) i j hi hj ∙ place 32 (128 * 2) refl,
+      ),
+      row-bits (drop 48 s) (bytes-drop 48 h) i j hi hj ∙ place 48 (128 * 3) refl,
+    )
+    b l
+  where
+    -- n bytes on are 8 n bits on
+    place : (n m : ℕ) → m ≡ 8 * n → B (drop n s) (32 * i + j) ≡ B s (m + 32 * i + j)
+    place n m e =
+        let p : n + (32 * i + j) / 8 ≡ (m + 32 * i + j) / 8 = omega arith in
+        let q : (32 * i + j) % 8 ≡ (m + 32 * i + j) % 8 = omega arith in
+        ap (λ (x : ℕ). bit x ((32 * i + j) % 8)) (getD-drop n s ((32 * i + j) / 8) 0) ∙ (λ a. bit (getD s (p a) 0) (q a))
 
 -- ---- bundles to bytes
 
@@ -93,8 +121,9 @@ rounds-bytes from (suc k) x h =
 
 -- twelve rounds on bytes are Algorithm 2
 pub shadow-turns : (s : List ℕ) → Buffer 64 s → turns shadowTurn 12 s ≡ bundleBytes (shadow (bundlesOf s))
-unfolding turns rounds shadow
+unfolding rounds turns
 shadow-turns s h =
     let l : 64 ≤ length s = omega arith in
     ap (turns shadowTurn 12) (sym (bundleBytes-bundlesOf s l (h .bytes) ∙ take-all 64 s (omega arith)))
     ∙ sym (rounds-bytes 0 12 (bundlesOf s) (bundlesOf-fits s l (h .bytes)))
+    ∙ ap bundleBytes (shadow-rounds (bundlesOf s))

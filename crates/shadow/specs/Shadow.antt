@@ -1,15 +1,16 @@
 -- Shadow-512 (document 004, sections 3.3 and 3.4): Algorithm 2 with six steps, on four bundles of four rows; x[b, i, j] is digit j of row i
 -- of bundle b. The S-box, the L-box and the constants are Clyde-128's.
 -- Assumes nothing.
+use mathlib.Core.Path.{_≡_, refl}
 use mathlib.Core.Bool.{Bool, true, false, _&&_}
 use mathlib.Core.List.{List, [], _∷_}
-use Prim.Native.Nat.{ℕ, _*_, _%_, _^_}
+use Prim.Native.Nat.{ℕ, _+_, _*_, _%_, _^_}
 use lib.ListN.{getD}
 use lib.Dec.{eqb}
 use Rattle.bits.specs.Digit.{bit}
 use Rattle.bits.specs.Number.{number}
 use Rattle.bits.specs.Pick.{pick}
-use Rattle.bits.specs.Run.{rounds}
+use Rattle.bits.specs.Run.{turns}
 use Rattle.circulant.specs.Parity.{parity}
 use Rattle.clyde.specs.declared.Rows.{Rows}
 use Rattle.clyde.specs.Components.{rows, sLayer, lbox, onPairs, add, W}
@@ -63,7 +64,21 @@ unfoldable pub withConstant : Rows → Bundles → Bundles
 withConstant w x =
     record { b0 = add (shifted 0 w) (x .b0); b1 = add (shifted 1 w) (x .b1); b2 = add (shifted 2 w) (x .b2); b3 = add (shifted 3 w) (x .b3) }
 
--- ---- Algorithm 2: round 2 σ is round A of step σ, and round 2 σ + 1 its round B
+-- ---- Algorithm 2: step σ = n is round A, then round B
+
+unfoldable pub roundA : ℕ → Bundles → Bundles
+roundA n x = withConstant (W (2 * n)) (each slLayer x)
+
+unfoldable pub roundB : ℕ → Bundles → Bundles
+roundB n x = withConstant (W (2 * n + 1)) (dLayer (each sLayer x))
+
+unfoldable pub step : ℕ → Bundles → Bundles
+step n x = roundB n (roundA n x)
+
+unfoldable pub shadow : Bundles → Bundles
+shadow x = turns step 6 x
+
+-- ---- the same as twelve rounds: an even one is a round A, an odd one a round B
 
 unfoldable pub layers : ℕ → Bundles → Bundles
 layers r x = pick (eqb (r % 2) 0) (each slLayer x) (dLayer (each sLayer x))
@@ -71,5 +86,6 @@ layers r x = pick (eqb (r % 2) 0) (each slLayer x) (dLayer (each sLayer x))
 unfoldable pub round : ℕ → Bundles → Bundles
 round r x = withConstant (W r) (layers r x)
 
-unfoldable pub shadow : Bundles → Bundles
-shadow x = rounds round 0 12 x
+pub shadow-rounds : (x : Bundles) → turns round 12 x ≡ shadow x
+unfolding turns roundA roundB step shadow layers round
+shadow-rounds x = refl
