@@ -10,28 +10,14 @@ use Rattle.bits.specs.Every.{upto-at}
 use Rattle.stopping.specs.Places.{shapeAt}
 use Rattle.scheme.specs.Scheme.{allShapes, partsOf}
 use Rattle.s1p.specs.Cipher.{Cipher}
-use Rattle.s1p.specs.Paper.{blocks}
 use Rattle.s1p.specs.Parts.{unlessEmpty}
-use Rattle.s1p.specs.Counts.{frontShapes, secondShapes, backShapes}
+use Rattle.s1p.specs.Counts.{walkCalls, frontShapes, secondShapes, backShapes}
 use Rattle.s1p.specs.Scheme.{s1pScheme}
 
--- the calls of a part of a walk, as the code finds them (a reader may skip these)
-unfoldable pub walkCalls : (a m kind : ℕ) → ℕ
-walkCalls a m kind = pick (eqb kind 2) (blocks a) (pick (eqb kind 3) (blocks m) 1)
-
--- the second walk is left out for an empty text, and has one text call less
+-- the calls of a part, as the code finds them (a reader may skip it): the second walk is left out for an empty text, and has one text call
+-- less
 unfoldable pub callsOf : (a m part : ℕ) → ℕ
 callsOf a m part = pick (ltb part 5) (walkCalls a m part) (unlessEmpty m (pick (eqb part 8) (walkCalls a m (part - 5) - 1) (walkCalls a m (part - 5))))
-
-pub empty-none : (m k : ℕ) → m ≡ 0 → unlessEmpty m k ≡ 0
-unfolding unlessEmpty
-empty-none zero k e = refl
-empty-none (suc m) k e = absurd (omega (arith, e))
-
-pub empty-not : (m k : ℕ) → (m ≡ 0 → ⊥) → unlessEmpty m k ≡ k
-unfolding unlessEmpty
-empty-not zero k f = absurd (f refl)
-empty-not (suc m) k f = refl
 
 unfoldable pub walkParts : Bool → ℕ
 walkParts sealing = pick sealing 5 9

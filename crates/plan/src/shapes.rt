@@ -16,6 +16,7 @@ use crate::walks;
 // The instance whose scheme is Spook; 1 to 4 are ISAP's.
 pub const SPOOK: u32 = 5;
 
+// Which of the two schemes an instance has.
 pub fn is_spook(instance: u32) -> bool
     ensures { λ r. ⌜ r ≡ isSpook instance ⌝ }
 {

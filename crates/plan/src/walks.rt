@@ -2,9 +2,9 @@
 ghost use mathlib.Core.Path.{_≡_};
 ghost use Prim.Native.Nat.{_+_, _/_, _≤_, _<_};
 ghost use Rattle.s1p.specs.Paper.{blocks};
-ghost use Rattle.s1p.specs.Counts.{verifyRounds, secondRounds};
+ghost use Rattle.s1p.specs.Counts.{verifyRounds, secondRounds, walkCalls};
 ghost use Rattle.instances.specs.Limits.{mostAssoc, mostText, mostCalls};
-ghost use Rattle.plan.specs.Walks.{walkCalls, callsOf, walkParts};
+ghost use Rattle.plan.specs.Walks.{callsOf, walkParts};
 
 // The blocks of 32 bytes, a last short one counted; an empty string has none.
 fn blocks_of(m: u32) -> u32

@@ -6,7 +6,7 @@ use mathlib.Core.Path.{_≡_, sym, ap, _∙_, subst}
 use mathlib.Core.Bool.{Bool, true, false}
 use mathlib.Core.Logic.{_⊎_, inl, inr}
 use mathlib.Core.List.{List, _++_, append-nil}
-use Prim.Native.Nat.{ℕ, zero, suc, _+_, _-_, _≤_, _<_, min}
+use Prim.Native.Nat.{ℕ, zero, suc, _+_, _-_, _*_, _≤_, _<_, min}
 use native.Mathlib.Nat.{zero-add}
 use native.Mathlib.Omega.{arith}
 use lib.ListN.{length, drop, replicate}
@@ -19,7 +19,7 @@ use Rattle.stopping.specs.Follows.{following}
 use Rattle.scheme.specs.Machine.{Machine, Input, Sealed}
 use Rattle.scheme.specs.Lawful.{Ready, untouched-refused}
 use Rattle.clyde.specs.OnBytes.{clydeTurn, clydeTurnBack}
-use Rattle.s1p.specs.Paper.{textOut, lastState, required, closingTweak, seal}
+use Rattle.s1p.specs.Paper.{blocks, parsed, start, absorb, textOut, lastState, required, closingTweak, seal}
 use Rattle.s1p.specs.Parts.{course}
 use Rattle.s1p.specs.Counts.{verifyRounds}
 use Rattle.s1p.specs.Scheme.{s1pScheme}
@@ -30,6 +30,7 @@ use Rattle.s1p.specs.Lasts.{rightTag, goes-on, accepts-if, refuses-if}
 use Rattle.s1p.specs.Between.{closeAfter, close-last, blocksWritten}
 use Rattle.s1p.specs.Sessions.{tag-before, tag-opening, session-before, session-closing, session-after}
 use Rattle.s1p.specs.Within.{seed-state, sealing-closing-state, opening-closing-state, second-seed-state}
+use Rattle.s1p.specs.States.{state-started, state-absorbed, state-walked, state-started-again, state-absorbed-again}
 use Rattle.s1p.specs.Outputs.{sealing-out-at, opening-out-at}
 use Rattle.instances.specs.Schemes.{schemeOf}
 use Rattle.isap.specs.declared.Job.{Job}
@@ -49,6 +50,10 @@ module _ (x : Input) where
 
   abbrev close : ℕ
   close = closeAfter (length (x .assoc)) (length (x .text))
+
+  -- u
+  abbrev dataBlocks : ℕ
+  dataBlocks = blocks (length (x .assoc))
 
   -- of the text's blocks, how many are written after n rounds of a walk that writes
   abbrev blocksAfter : ℕ → ℕ
@@ -83,6 +88,15 @@ module _ (x : Input) where
     pub closed : close < d → d ≤ verify → state ≡ closing (d - close) ++ replicate 48 0
     pub again : verify < d → d ≤ verify + 12 → state ≡ turns (clydeTurn (x .key) (replicate 16 0)) (d - verify) (x .nonce) ++ replicate 48 0
 
+  -- the state with d rounds done, at the end of a Shadow call: S_0 behind its start, S_λ behind the data, S_{λ+ℓ} before the closing call,
+  -- and in an opening's second walk the first two again. Nothing of the next call is in it.
+  pub record ShadowAfter (d : ℕ) (state : List ℕ) : Type 0 where
+    pub started : d ≡ 24 → state ≡ start spook (x .key) (x .nonce)
+    pub absorbed : d ≡ 24 + 12 * dataBlocks → state ≡ absorb spook (parsed (x .assoc)) (start spook (x .key) (x .nonce))
+    pub walked : d ≡ close → state ≡ last
+    pub startedAgain : d ≡ verify + 24 → state ≡ start spook (x .key) (x .nonce)
+    pub absorbedAgain : d ≡ verify + (24 + 12 * dataBlocks) → state ≡ absorb spook (parsed (x .assoc)) (start spook (x .key) (x .nonce))
+
   -- a sealing after n rounds, to which the bytes out were lent
   pub record SealingAfter (out : List ℕ) (n : ℕ) (q : Progress) : Type 0 where
     pub output : q .out ≡ blocksOver 32 (blocksAfter n) (sealed .cipher) out
@@ -90,6 +104,7 @@ module _ (x : Input) where
     pub tagged : verify ≤ n → q .job .tag ≡ sealed .tag
     pub session : SessionAfter (q .rounds) (q .job .session)
     pub state : ClydeAfter taggingBytes (q .rounds) (q .job .state)
+    pub shadow : ShadowAfter (q .rounds) (q .job .state)
 
   -- an opening after n rounds, which received the tag: with document 004's, and with another
   pub record OpeningAfter (received out : List ℕ) (n : ℕ) (q : Progress) : Type 0 where
@@ -98,6 +113,7 @@ module _ (x : Input) where
     pub tag : q .job .tag ≡ received
     pub session : SessionAfter (q .rounds) (q .job .session)
     pub state : ClydeAfter (verifyingBytes received) (q .rounds) (q .job .state)
+    pub shadow : ShadowAfter (q .rounds) (q .job .state)
 
 -- ---- jobs keep it
 
@@ -194,6 +210,25 @@ module _ (j : Job) (assoc text out : List ℕ) (h : SpookJob j assoc text out) w
             (omega arith) (omega arith) (omega arith);
       }
 
+  -- at the end of a Shadow call
+  shadow-done : (d : ℕ) → d ≤ lasts c m → ShadowAfter x d (halted c d m .state)
+  unfolding spook
+  shadow-done d done =
+      let l = spook-lawful in
+      let n16 = h .job .nonce in
+      record {
+        started = λ e. here e (state-started spook l x n16 m r);
+        absorbed = λ e. here e (state-absorbed spook l x n16 m r);
+        walked = λ e. here e (state-walked spook l x n16 m r);
+        startedAgain = λ e.
+            let on = goes-on spook x m (omega (arith, done, e)) in here e (state-started-again spook l x n16 m r (on .0) (h .tag .long) (on .1) (on .2));
+        absorbedAgain = λ e.
+            let on = goes-on spook x m (omega (arith, done, e)) in here e (state-absorbed-again spook l x n16 m r (on .0) (h .tag .long) (on .1) (on .2));
+      }
+    where
+      here : {k : ℕ} {s : List ℕ} → d ≡ k → halted c k m .state ≡ s ++ drop 64 (j .state) → halted c d m .state ≡ s
+      here {k} {s} e f = ap (λ (i : ℕ). halted c i m .state) e ∙ f ∙ whole-state s
+
   -- ---- so after n rounds of the job
 
   -- what holds with so many rounds done
@@ -219,6 +254,7 @@ module _ (j : Job) (assoc text out : List ℕ) (h : SpookJob j assoc text out) w
         tagged = λ b. ap Machine.tag (halted-is n ∙ sealing-ends spook l x n16 m r seals n b ∙ sealing-finished spook l x n16 m r seals);
         session = by-done (λ d q. SessionAfter x d (q .session)) session-done n;
         state = by-done (λ d q. ClydeAfter x (taggingBytes x) d (q .state)) (state-done (taggingBytes x) (tagging-done seals)) n;
+        shadow = by-done (λ d q. ShadowAfter x d (q .state)) shadow-done n;
       })
 
   pub opening-between : j .direction ≡ 2 → Throughout j assoc text out (h .job) (OpeningAfter (inputOf j assoc text) (j .tag) out)
@@ -238,4 +274,5 @@ module _ (j : Job) (assoc text out : List ℕ) (h : SpookJob j assoc text out) w
         tag = ap Machine.tag (halted-is n) ∙ tag-opening spook x m opens n;
         session = by-done (λ d q. SessionAfter x d (q .session)) session-done n;
         state = by-done (λ d q. ClydeAfter x (verifyingBytes x (j .tag)) d (q .state)) (state-done (verifyingBytes x (j .tag)) (verifying-done opens)) n;
+        shadow = by-done (λ d q. ShadowAfter x d (q .state)) shadow-done n;
       })

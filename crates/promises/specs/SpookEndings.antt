@@ -2,8 +2,9 @@
 -- text; an opening by a wrong tag after as many, which are V, if the received tag is another than document 004's; with that tag it ends well,
 -- after V + 12 + 12 (u + v) rounds if there is a text, and after V if there is none.
 -- Assumes nothing.
-use mathlib.Core.Path.{_≡_, ap, _∙_}
+use mathlib.Core.Path.{_≡_, sym, ap, _∙_}
 use mathlib.Core.Bool.{Bool, true, false}
+use mathlib.Core.Logic.{_↔_}
 use mathlib.Core.List.{List}
 use Prim.Native.Nat.{ℕ, _+_, _*_, _<_}
 use native.Mathlib.Omega.{arith}
@@ -13,14 +14,17 @@ use Rattle.stopping.specs.Course.{Course, accepted, lasts}
 use Rattle.scheme.specs.Machine.{Machine, Input}
 use Rattle.scheme.specs.Scheme.{Scheme}
 use Rattle.scheme.specs.Lawful.{Ready}
-use Rattle.s1p.specs.Paper.{blocks}
+use Rattle.clyde.specs.Clyde.{clydeBytesInverse}
+use Rattle.s1p.specs.Paper.{blocks, lastState, required, closingTweak}
 use Rattle.s1p.specs.Parts.{course}
 use Rattle.s1p.specs.Counts.{verifyRounds, backCount}
 use Rattle.s1p.specs.Scheme.{s1pScheme}
+use Rattle.s1p.specs.Laws.{closingTweak-is}
+use Rattle.s1p.specs.Evenly.{lastState-kept}
 use Rattle.s1p.specs.Theorems.{sealing-accepted}
-use Rattle.s1p.specs.Spook.{spook, spookScheme, spook-lawful}
+use Rattle.s1p.specs.Spook.{spook, spookScheme, spook-lawful, decrypt-is}
 use Rattle.s1p.specs.Lasts as s1p
-use Rattle.s1p.specs.Lasts.{rightTag, second-some, accepts-if, refuses-if}
+use Rattle.s1p.specs.Lasts.{rightTag, inverse-right, second-some, accepts-if, refuses-if}
 use Rattle.instances.specs.Schemes.{isSpook, schemeOf, scheme-spook}
 use Rattle.isap.specs.declared.Job.{Job}
 use Rattle.isap.specs.Records.{sealingOf, inputOf, machineOf, courseOf, frontOf, backOf}
@@ -70,6 +74,20 @@ module _ (j : Job) (assoc text out : List ℕ) (h : SpookJob j assoc text out) w
       → lasts (courseOf schemeOf j assoc text) (machineOf j out) ≡ verify
   opening-lasts-wrong d wrong =
       lasts-is ∙ s1p.opening-lasts-wrong spook spook-lawful x (h .given) m r (opening-seals-not (j .direction) d) (h .tag) wrong
+
+  -- ---- whether it accepts: the received tag is document 004's exactly when inverse Clyde of it gives the required value
+
+  abbrev last : List ℕ
+  last = lastState spook false (j .key) (j .nonce) assoc text
+
+  pub right-by-inverse : (clydeBytesInverse (j .key) (closingTweak last) (j .tag) ≡ required last) ↔ (j .tag ≡ rightTag spook (inputOf j assoc text))
+  unfolding s1pScheme
+  right-by-inverse =
+      let g = h .given in
+      let kept = lastState-kept spook spook-lawful (j .key) (j .nonce) assoc (g .nonce .long) (g .nonce .bytes) (g .assoc) false text (g .text) in
+      let is = decrypt-is (j .key) (closingTweak last) (j .tag) (g .key) (closingTweak-is last kept) (h .tag) in
+      let by = inverse-right spook spook-lawful x g (j .tag) (h .tag) in
+      (λ e. by .0 (is ∙ e), λ e. sym is ∙ by .1 e)
 
   -- ---- its end, on its record
 

@@ -4,15 +4,14 @@ use mathlib.Core.Path.{_≡_, refl, sym, ap, _∙_}
 use mathlib.Core.Bool.{Bool, true, false}
 use mathlib.Core.List.{List, [], _∷_, _++_, append-nil}
 use Prim.Native.Nat.{ℕ, zero, suc, _+_, _-_, _*_, _≤_, _<_, min}
-use native.Mathlib.Nat.{add-zero}
 use native.Mathlib.Decide.{decLt}
 use native.Mathlib.Omega.{arith}
 use borrow.Author.Tests.{ne-eqb}
-use lib.ListN.{length, take, drop, drop-of-length-le, take-append-drop}
+use lib.ListN.{length, take, drop, drop-of-length-le}
 use lib.Seq.{length-take-le, take-at, drop-at, take-all}
 use Rattle.bits.specs.Pick.{pick}
 use Rattle.bits.specs.Run.{turns}
-use Rattle.bits.specs.Put.{putAt, putAt-then}
+use Rattle.bits.specs.Put.{putAt, putAt-then, putAt-none}
 use Rattle.bits.specs.Xors.{xors}
 use Rattle.stopping.specs.Stopped.{whole}
 use Rattle.stopping.specs.Rows.{run, run-append}
@@ -44,11 +43,6 @@ block-putAt i c o h e =
           ∙ ap (take 32) (append-nil c) ∙ take-all 32 c (omega arith)
       | no f ↦ take-at c r 32 (omega arith)
     ]
-
--- nothing put anywhere
-pub putAt-none : (i : ℕ) (o : List ℕ) → putAt i [] o ≡ o
-unfolding putAt
-putAt-none i o = ap (λ (k : ℕ). take i o ++ drop k o) (add-zero i) ∙ take-append-drop i o
 
 -- block i of a text of m bytes, then those after it, of which there are none if it is short
 pub put-both : (i m : ℕ) (c ys o : List ℕ) → length o ≡ m → i * 32 ≤ m → length c ≡ min 32 (m - i * 32) → (m < suc i * 32 → ys ≡ [])

@@ -6,7 +6,7 @@ use mathlib.Core.List.{List, [], _∷_}
 use Prim.Native.Nat.{ℕ, zero, suc, _+_, _-_, _*_, _/_, _%_, _≤_, _<_}
 use native.Mathlib.Nat.{div-add-mod', mod-lt}
 use native.Mathlib.Omega.{arith}
-use lib.Dec.{lit<}
+use lib.Dec.{eqb, lit<}
 use lib.ListN.{length}
 use Rattle.bits.specs.Pick.{pick}
 use Rattle.stopping.specs.Parts.{Shape, roundsIn, EachSome, shapes}
@@ -25,6 +25,20 @@ verifyRounds a m = 24 + 12 * (1 + blocks a + blocks m)
 -- an opening's second walk
 unfoldable pub secondRounds : (a m : ℕ) → ℕ
 secondRounds a m = unlessEmpty m (12 + 12 * (blocks a + blocks m))
+
+pub unless-none : (m k : ℕ) → m ≡ 0 → unlessEmpty m k ≡ 0
+unfolding unlessEmpty
+unless-none zero k e = refl
+unless-none (suc m) k e = absurd (omega (arith, e))
+
+pub unless-some : (m k : ℕ) → 0 < m → unlessEmpty m k ≡ k
+unfolding unlessEmpty
+unless-some zero k h = absurd (omega arith)
+unless-some (suc m) k h = refl
+
+-- the calls of a part by its kind in a walk, 4 being the closing call, as code finds them (a reader may skip it)
+unfoldable pub walkCalls : (a m kind : ℕ) → ℕ
+walkCalls a m kind = pick (eqb kind 2) (blocks a) (pick (eqb kind 3) (blocks m) 1)
 
 -- ---- a string's blocks cover it, and none of them is empty
 

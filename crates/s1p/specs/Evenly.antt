@@ -245,9 +245,13 @@ module _ (p : Cipher) (l : LawfulCipher p) where
     unfolding before
     length-before m = length-marked (parsed m) (behind p key nonce a) length-behind
 
+    pub behind-is : absorb p (parsed a) (start p key nonce) ≡ behind p key nonce a
+    unfolding behind parsed
+    behind-is = absorb-even (blocks (length a)) a (start p key nonce) (blocks-are (length a) .1)
+
     ready-is : (m : List ℕ) → ready p key nonce a m ≡ before m
-    unfolding ready before behind parsed
-    ready-is m = ap (marked (parsed m)) (absorb-even (blocks (length a)) a (start p key nonce) (blocks-are (length a) .1))
+    unfolding ready before
+    ready-is m = ap (marked (parsed m)) behind-is
 
     module _ (b : Bool) (m : List ℕ) where
       pub textOut-is : textOut p b key nonce a m ≡ outsAll p b (parsed m) (marked (parsed m) (behind p key nonce a))

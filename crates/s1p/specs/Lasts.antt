@@ -3,19 +3,22 @@
 -- Assumes nothing.
 use mathlib.Core.Path.{_≡_, refl, sym, ap, ap₂, _∙_}
 use mathlib.Core.Bool.{Bool, true, false}
+use mathlib.Core.Logic.{_↔_}
 use mathlib.Core.List.{List}
-use Prim.Native.Nat.{ℕ, zero, suc, _+_, _*_, _<_}
+use Prim.Native.Nat.{ℕ, _+_, _*_, _<_}
 use native.Mathlib.Decide.{decLt}
 use native.Mathlib.Omega.{arith}
 use lib.ListN.{length}
+use Rattle.bits.specs.Strings.{same}
+use Rattle.bits.specs.StringLaws.{same-refl, same-true}
 use Rattle.stopping.specs.Course.{accepted, lasts}
 use Rattle.stopping.specs.Halts.{lasts-accepted, lasts-refused}
 use Rattle.scheme.specs.Machine.{Machine, Input, Buffer}
 use Rattle.scheme.specs.Lawful.{Given, Ready}
-use Rattle.s1p.specs.Cipher.{Cipher, LawfulCipher}
-use Rattle.s1p.specs.Paper.{blocks, textOut, lastState, tagOf, seal, agrees}
-use Rattle.s1p.specs.Parts.{unlessEmpty, course}
-use Rattle.s1p.specs.Counts.{verifyRounds, secondRounds, backCount, front-rounds, back-rounds, lawful}
+use Rattle.s1p.specs.Cipher.{Cipher, LawfulCipher, decrypt}
+use Rattle.s1p.specs.Paper.{blocks, textOut, lastState, required, closingTweak, tagOf, seal, agrees}
+use Rattle.s1p.specs.Parts.{course}
+use Rattle.s1p.specs.Counts.{verifyRounds, secondRounds, unless-none, unless-some, backCount, front-rounds, back-rounds, lawful}
 use Rattle.s1p.specs.Scheme.{s1pScheme}
 use Rattle.s1p.specs.Evenly.{lastState-kept, state-back}
 use Rattle.s1p.specs.Theorems.{agrees-if, agrees-only-if, sealing-accepted, opening-accepts}
@@ -30,15 +33,27 @@ pub rightTag-is : (p : Cipher) → LawfulCipher p → (x : Input) → length (x 
 unfolding rightTag seal
 rightTag-is p l x hn = ap (tagOf p (x .key)) (sym (state-back p l (x .key) (x .nonce) (x .assoc) hn false (x .text)))
 
+-- in request (iv)'s words: the inverse of a tag gives the required value exactly when the tag is that one
+pub inverse-right : (p : Cipher) → LawfulCipher p → (x : Input) → Given (s1pScheme p) x → (tag : List ℕ) → Buffer 16 tag
+    → let s = lastState p false (x .key) (x .nonce) (x .assoc) (x .text) in
+    (decrypt p (x .key) (closingTweak s) tag ≡ required s) ↔ (tag ≡ rightTag p x)
+unfolding rightTag agrees s1pScheme
+inverse-right p l x g tag hg =
+    let s = lastState p false (x .key) (x .nonce) (x .assoc) (x .text) in
+    let kept = lastState-kept p l (x .key) (x .nonce) (x .assoc) (g .nonce .long) (g .nonce .bytes) (g .assoc) false (x .text) (g .text) in
+    let inverse = decrypt p (x .key) (closingTweak s) tag in (
+      λ e. agrees-only-if p l (x .key) s (g .key) kept tag hg (ap (λ (w : List ℕ). same w (required s)) e ∙ same-refl (required s)),
+      λ e. same-true inverse (required s) (agrees-if p l (x .key) s (g .key) kept tag hg e),
+    )
+
 -- the second walk, in numbers
 pub second-none : (a m : ℕ) → m ≡ 0 → secondRounds a m ≡ 0
-unfolding secondRounds unlessEmpty
-second-none a m e = ap (λ (k : ℕ). unlessEmpty k (12 + 12 * (blocks a + blocks m))) e
+unfolding secondRounds
+second-none a m e = unless-none m _ e
 
 pub second-some : (a m : ℕ) → 0 < m → secondRounds a m ≡ 12 + 12 * (blocks a + blocks m)
-unfolding secondRounds unlessEmpty
-second-some a zero h = absurd (omega arith)
-second-some a (suc m) h = refl
+unfolding secondRounds
+second-some a m h = unless-some m _ h
 
 -- how long a job lasts that accepts
 accepted-lasts : (p : Cipher) (x : Input) (m : Machine) → accepted (course p x) m ≡ true → (b : Bool) → x .sealing ≡ b

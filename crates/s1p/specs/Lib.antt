@@ -18,4 +18,5 @@ pub mod Lasts
 pub mod Between
 pub mod Sessions
 pub mod Within
+pub mod States
 pub mod Outputs

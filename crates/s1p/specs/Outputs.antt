@@ -16,7 +16,7 @@ use lib.ListN.{length, take, drop, drop-of-length-le}
 use lib.Seq.{take-all}
 use Rattle.bits.specs.Pick.{pick}
 use Rattle.bits.specs.Run.{front}
-use Rattle.bits.specs.Put.{put, putAt, take-putAt-before, drop-putAt-behind}
+use Rattle.bits.specs.Put.{put, putAt, take-putAt-before, drop-putAt-behind, putAt-none}
 use Rattle.bits.specs.Xors.{xors, length-xors}
 use Rattle.bits.specs.Strings.{block}
 use Rattle.bits.specs.StringLaws.{length-block, length-putBlock}
@@ -32,15 +32,15 @@ use Rattle.scheme.specs.Blocks.{Writes, callsDone, out-after}
 use Rattle.s1p.specs.Cipher.{Cipher, LawfulCipher}
 use Rattle.s1p.specs.Paper.{blocks, iv, textMark, lastData, lastText, textOut, seal}
 use Rattle.s1p.specs.Parts.{written, due, next, seed, begin, assocs, texts, walk, tagging, sealParts, verifyParts, openParts, sealingCourse, openingCourse, course}
-use Rattle.s1p.specs.Counts.{verifyRounds, shape, blocks-are, blocks-some, front-rounds, lawful}
+use Rattle.s1p.specs.Counts.{verifyRounds, shape, blocks-are, blocks-some, front-rounds, lawful, unless-some}
 use Rattle.s1p.specs.Scheme.{s1pScheme}
 use Rattle.s1p.specs.Evenly.{length-textOut}
-use Rattle.s1p.specs.Calls.{empty, putAt-none, not-due}
+use Rattle.s1p.specs.Calls.{empty, not-due}
 use Rattle.s1p.specs.Kept.{seed-out, begin-out, assocs-out, tagging-out, no-writes, verify-out}
 use Rattle.s1p.specs.Theorems.{sealing-accepted, sealing-finished, opening-finished}
 use Rattle.s1p.specs.Lawful.{lawful-s1p}
 use Rattle.s1p.specs.Between.{blocksWritten}
-use Rattle.s1p.specs.Sessions.{unless-some, opening-parts, opening-rounds}
+use Rattle.s1p.specs.Sessions.{opening-parts, opening-rounds}
 
 -- ---- the calls that write, as one part
 

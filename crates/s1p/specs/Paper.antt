@@ -1,5 +1,5 @@
 -- S1P as document 004 has it (Appendix A, Algorithms 3 and 4), on byte strings: n = 128 and r = c = 256 bits are 16 and 32 bytes, and
--- P is 0 (single user). A byte's first bit is its lowest.
+-- P is 0 (single user). A byte's first bit is its lowest (section 3.1, BMAP).
 -- Assumes nothing.
 use mathlib.Core.Bool.{Bool, true, false}
 use mathlib.Core.List.{List, [], _∷_, _++_}
@@ -21,7 +21,7 @@ blocks m = (m + 31) / 32
 unfoldable pub parsed : List ℕ → List (List ℕ)
 parsed s = cut 32 (blocks (length s)) s
 
--- ---- 4. to 6.: B ← E(N) with the tweak P ‖ 0; IV ← P ‖ 0 ‖ N ‖ 0*; S ← π(IV ‖ B)
+-- ---- 4. to 6.: B ← E(N) with the tweak P ‖ 0; IV ← P ‖ 0 ‖ N ‖ 0*; S_0 ← π(IV ‖ B)
 
 unfoldable pub iv : List ℕ → List ℕ
 iv nonce = replicate 16 0 ++ (nonce ++ replicate 16 0)
@@ -78,7 +78,7 @@ unfoldable pub marked : List (List ℕ) → List ℕ → List ℕ
 marked [] s = s
 marked (m ∷ ms) s = textMark s
 
--- ---- the state before the text, the text that comes out, and the last state
+-- ---- the state before the text, S_λ with (a)'s mark; the text that comes out; and the last state, S_{λ+ℓ}
 
 unfoldable pub ready : Cipher → (key nonce a m : List ℕ) → List ℕ
 ready p key nonce a m = marked (parsed m) (absorb p (parsed a) (start p key nonce))

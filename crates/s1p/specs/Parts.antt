@@ -57,10 +57,11 @@ module _ (p : Cipher) (x : Input) where
   unfoldable pub begin : Bool → ℕ → Part Machine
   begin writes count = part count shadowed (λ i. onState (λ s. put (iv (x .nonce) ++ take 16 s) s)) (λ i. due writes 0)
 
+  -- every block by the rule of the last one: no other is short, and to a whole block that rule does what Algorithm 3's loop does
   unfoldable pub assocs : Bool → ℕ → Part Machine
   assocs writes count = part count shadowed (λ i. onState (lastData (block 32 i (x .assoc)))) (λ i. due writes (suc i))
 
-  -- the text's mark goes with the first block
+  -- likewise; the text's mark goes with the first block
   unfoldable pub texts : Bool → ℕ → Part Machine
   texts writes count =
       part count shadowed (λ i m. onState (λ s. lastText (block 32 i (cipherOf x (m .out))) (first i textMark s)) m) (next writes)

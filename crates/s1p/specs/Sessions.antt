@@ -26,7 +26,7 @@ use Rattle.scheme.specs.Lawful.{Ready}
 use Rattle.s1p.specs.Cipher.{Cipher, LawfulCipher}
 use Rattle.s1p.specs.Paper.{blocks, textOut, lastState}
 use Rattle.s1p.specs.Parts.{unlessEmpty, written, due, next, seeded, seed, begin, assocs, texts, walk, setAside, tagged, tagging, verifying, verifyParts, sealingCourse, openingCourse, course}
-use Rattle.s1p.specs.Counts.{verifyRounds, front-rounds, lawful}
+use Rattle.s1p.specs.Counts.{verifyRounds, unless-some, front-rounds, lawful}
 use Rattle.s1p.specs.Scheme.{s1pScheme}
 use Rattle.s1p.specs.Evenly.{length-lastState}
 use Rattle.s1p.specs.Ends.{seal-walk, verify-walk}
@@ -181,11 +181,6 @@ module _ (p : Cipher) (x : Input) (m : Machine) where
       (record { enter = λ i q e. e; turn = λ k q e. e; leave = λ i q e. e }, tt))
       (walk-quiet p x (λ (s g : List ℕ). g ≡ m .tag) true _ _ _ (λ s g q. q)) n m refl
 
-pub unless-some : (t k : ℕ) → 0 < t → unlessEmpty t k ≡ k
-unfolding unlessEmpty
-unless-some zero k h = absurd (omega arith)
-unless-some (suc t) k h = refl
-
 -- ---- zeros stay zeros
 
 alike : (z i j : ℕ) → i ≤ j → replicate i z ++ drop i (replicate j z) ≡ replicate j z
@@ -224,7 +219,7 @@ module _ (p : Cipher) (l : LawfulCipher p) (x : Input) (hn : length (x .nonce) �
   abbrev pub walkedTo : Machine
   walkedTo = machine (last ++ drop 64 (m .state)) (replicate 64 0 ++ drop 64 (m .session)) written-by (m .tag)
 
-  reached : run (row (before p x)) m ≡ walkedTo
+  pub reached : run (row (before p x)) m ≡ walkedTo
   reached =
       ap (run (row (before p x))) (split p l x hn m ready)
       ∙ blind-run 64 (before p x) (walk-blind p l x hn (x .sealing) 1 (u p x) (v p x)) .apart (drop 64 (m .state)) (drop 64 (m .session)) foremost (fore-exact p l x hn m ready)

@@ -57,13 +57,13 @@ module _ (p : Cipher) (l : LawfulCipher p) (x : Input) (hn : length (x .nonce) �
   -- ---- the seed and Shadow's start
 
   -- B
-  abbrev seedOf : List ℕ
+  abbrev pub seedOf : List ℕ
   seedOf = encrypt p (x .key) (replicate 16 0) (x .nonce)
 
   length-seedOf : length seedOf ≡ 16
   length-seedOf = length-encrypt p l (x .key) (replicate 16 0) (x .nonce) hn
 
-  r-seed : (m : Machine) → Exact 64 m → run (partRow (seed p x 1)) m ≡ machine (clydeState seedOf) zero64 (m .out) (m .tag)
+  pub r-seed : (m : Machine) → Exact 64 m → run (partRow (seed p x 1)) m ≡ machine (clydeState seedOf) zero64 (m .out) (m .tag)
   unfolding partRow run calls seed seeded encrypt clydeState
   r-seed m h =
       let t : ℕ → List ℕ → List ℕ = λ k. front 16 (p .forward (x .key) (replicate 16 0) k) in
@@ -73,7 +73,7 @@ module _ (p : Cipher) (l : LawfulCipher p) (x : Input) (hn : length (x .nonce) �
       (put-all zero64 (m .session) (length-replicate {A = ℕ} 64 0 ∙ sym (h .session)))
       ∙ ap (λ (s : List ℕ). machine s zero64 (m .out) (m .tag)) (turns-front (l .forward (x .key) (replicate 16 0)) 12 (x .nonce) (replicate 48 0) hn)
 
-  r-begin : (w : Bool) (ss o g : List ℕ) → run (partRow (begin p x w 1)) (machine (clydeState seedOf) ss o g)
+  pub r-begin : (w : Bool) (ss o g : List ℕ) → run (partRow (begin p x w 1)) (machine (clydeState seedOf) ss o g)
       ≡ due p x w 0 (machine (start p (x .key) (x .nonce)) ss o g)
   unfolding partRow run calls begin start
   r-begin w ss o g =
@@ -119,7 +119,7 @@ module _ (p : Cipher) (l : LawfulCipher p) (x : Input) (hn : length (x .nonce) �
   abbrev pub behindData : List ℕ
   behindData = behind p (x .key) (x .nonce) (x .assoc)
 
-  r-data : (w : Bool) (ss o g : List ℕ)
+  pub r-data : (w : Bool) (ss o g : List ℕ)
       → run (partRow (assocs p x w u)) (due p x w 0 (machine (start p (x .key) (x .nonce)) ss o g)) ≡ due p x w u (machine behindData ss o g)
   unfolding partRow assocs behind parsed
   r-data w ss o g =

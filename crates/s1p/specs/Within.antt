@@ -24,7 +24,7 @@ use Rattle.scheme.specs.Lawful.{Ready}
 use Rattle.s1p.specs.Cipher.{Cipher, LawfulCipher, decrypt}
 use Rattle.s1p.specs.Paper.{lastState, required, closingTweak}
 use Rattle.s1p.specs.Parts.{unlessEmpty, seeded, seed, begin, assocs, texts, setAside, tagged, tagging, verifying, verifyParts, openingCourse, course}
-use Rattle.s1p.specs.Counts.{verifyRounds, lawful}
+use Rattle.s1p.specs.Counts.{verifyRounds, unless-some, lawful}
 use Rattle.s1p.specs.Scheme.{s1pScheme}
 use Rattle.s1p.specs.Laws.{turns-front, length-decrypt}
 use Rattle.s1p.specs.Evenly.{length-lastState}
@@ -33,7 +33,7 @@ use Rattle.s1p.specs.Walks.{clydeState, length-clydeState}
 use Rattle.s1p.specs.Tails.{closingTweak-within}
 use Rattle.s1p.specs.Theorems.{opening-verified}
 use Rattle.s1p.specs.Between.{closeAfter, close-last}
-use Rattle.s1p.specs.Sessions.{unseeded, u, v, before, closing, closing-one, closing-some, early, before-rounds, unless-some, walkedTo, entered, entered-session, opening-front, opening-parts, opening-rounds}
+use Rattle.s1p.specs.Sessions.{unseeded, u, v, before, closing, closing-one, closing-some, early, before-rounds, walkedTo, entered, entered-session, opening-front, opening-parts, opening-rounds}
 
 -- ---- a part of one call, behind the parts bs: its state after some of its rounds, or all
 

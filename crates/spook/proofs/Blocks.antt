@@ -17,6 +17,7 @@ use Rattle.bits.specs.Strings.{xorInto, xorAt, block}
 use Rattle.bits.specs.StringLaws.{length-block, length-xorAt, xorInto-pad}
 use Rattle.s1p.specs.Paper.{blocks, iv, shortMark, padded, lastData, lastText}
 use Rattle.s1p.specs.Counts.{blocks-are}
+use Rattle.s1p.specs.Laws.{length-iv}
 
 -- ---- a whole buffer
 
@@ -28,15 +29,11 @@ pub widened : (xs : List ℕ) → length xs ≡ 16 → putAt 0 xs (replicate 64 
 unfolding put
 widened xs h = putAt-zero xs (replicate 64 0) ∙ ap (λ (n : ℕ). xs ++ drop n (replicate 64 0)) h
 
-iv-long : (n : List ℕ) → length n ≡ 16 → length (iv n) ≡ 48
-unfolding iv
-iv-long n h = omega (arith, length-append n (replicate 16 0))
-
 pub started : (n b : List ℕ) → length n ≡ 16 → length b ≡ 16 → putAt 48 b (putAt 16 n (replicate 64 0)) ≡ iv n ++ b
 unfolding putAt iv
 started n b h k =
     let front = replicate 16 0 ++ (n ++ replicate 16 0) in
-    let long : length front ≡ 48 = iv-long n h in
+    let long : length front ≡ 48 = length-iv n h in
     let parted : replicate 16 0 ++ (n ++ replicate 32 0) ≡ front ++ replicate 16 0 =
     ap (λ (u : List ℕ). replicate 16 0 ++ u) (sym (append-assoc n (replicate 16 0) (replicate 16 0))) in
     ap (λ (i : ℕ). putAt 48 b (replicate 16 0 ++ (n ++ drop (16 + i) (replicate 64 0)))) h
@@ -47,7 +44,7 @@ started n b h k =
 
 -- both are as long as the state
 pub started-long : (n s : List ℕ) → length n ≡ 16 → length s ≡ 64 → length (iv n ++ take 16 s) ≡ length s
-started-long n s h k = length-append (iv n) (take 16 s) ∙ omega (arith, iv-long n h, length-take-le 16 s (omega arith))
+started-long n s h k = length-append (iv n) (take 16 s) ∙ omega (arith, length-iv n h, length-take-le 16 s (omega arith))
 
 pub closed-long : (b : Bool) (s g : List ℕ) → length s ≡ 64 → length g ≡ 16 → length (take 16 (pick b s g) ++ replicate 48 0) ≡ length s
 closed-long true s g h k = length-append (take 16 s) (replicate 48 0) ∙ omega (arith, length-take-le 16 s (omega arith))

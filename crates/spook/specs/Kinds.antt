@@ -7,7 +7,7 @@ use mathlib.Core.List.{List, [], _∷_}
 use Prim.Native.Nat.{ℕ, zero, suc, _-_, _*_, _%_, _≤_, _<_}
 use native.Mathlib.Nat.{le-refl}
 use native.Mathlib.Omega.{arith}
-use lib.Dec.{eqb, ltb}
+use lib.Dec.{ltb}
 use lib.ListN.{length}
 use Rattle.bits.specs.Pick.{pick}
 use Rattle.bits.specs.Every.{upto-at}
@@ -19,7 +19,7 @@ use Rattle.scheme.specs.Calls.{partIn, shapeIn}
 use Rattle.s1p.specs.Cipher.{Cipher}
 use Rattle.s1p.specs.Paper.{blocks}
 use Rattle.s1p.specs.Parts.{unlessEmpty, seed, begin, assocs, texts, tagging, verifying, sealingCourse, openingCourse, course}
-use Rattle.s1p.specs.Counts.{frontShapes, backShapes, secondShapes, blocks-are}
+use Rattle.s1p.specs.Counts.{walkCalls, frontShapes, backShapes, secondShapes, blocks-are}
 use Rattle.s1p.specs.Scheme.{s1pScheme}
 
 -- whether a part's calls write to the output: all of a sealing, and an opening's second walk
@@ -33,10 +33,6 @@ partOf p x writes count kind =
     (seed p x count
     ∷ begin p x writes count
     ∷ assocs p x writes count ∷ texts p x writes count ∷ pick (x .sealing) (tagging p x) (verifying p x) ∷ []) kind
-
--- at most so many calls has a part of a kind
-unfoldable most : (a m kind : ℕ) → ℕ
-most a m kind = pick (eqb kind 2) (blocks a) (pick (eqb kind 3) (blocks m) 1)
 
 module _ (p : Cipher) where
   -- ---- what the code asks
@@ -69,7 +65,7 @@ module _ (p : Cipher) where
   part-is false key nonce assoc text j h =
       upto-at (Is false key nonce assoc text) 9 (((((((((tt, refl), refl), refl), refl), refl), refl), refl), refl), refl) j h
 
-  -- ---- how many calls it has
+  -- ---- it has at most as many calls as a part of its kind in the first walk
 
   unless-le : (m k : ℕ) → unlessEmpty m k ≤ k
   unfolding unlessEmpty
@@ -80,10 +76,10 @@ module _ (p : Cipher) where
   unless-less m k = omega (arith, unless-le m (k - 1))
 
   abbrev Few : Bool → (a m j : ℕ) → Type 0
-  Few b a m j = shapeIn (s1pScheme p) b a m j .count ≤ most a m (j % 5)
+  Few b a m j = shapeIn (s1pScheme p) b a m j .count ≤ walkCalls a m (j % 5)
 
   few : (b : Bool) (a m j : ℕ) → j < length (allShapes (s1pScheme p) b a m) → Few b a m j
-  unfolding s1pScheme allShapes frontShapes backShapes secondShapes shapeAt most
+  unfolding s1pScheme allShapes frontShapes backShapes secondShapes shapeAt walkCalls
   few true a m j h =
       upto-at (Few true a m) 5 (((((tt, le-refl 1), le-refl 1), le-refl (blocks a)), le-refl (blocks m)), le-refl 1) j h
   few false a m j h =
@@ -92,18 +88,18 @@ module _ (p : Cipher) where
       j h
 
   module _ (b : Bool) (part n a m : ℕ) (there : part < length (allShapes (s1pScheme p) b a m)) (below : n < shapeIn (s1pScheme p) b a m part .count) where
-    of-kind : (kind : ℕ) → part % 5 ≡ kind → n < most a m kind
+    of-kind : (kind : ℕ) → part % 5 ≡ kind → n < walkCalls a m kind
     of-kind kind e =
-        let h = subst (λ (k : ℕ). shapeIn (s1pScheme p) b a m part .count ≤ most a m k) e (few b a m part there) in omega arith
+        let h = subst (λ (k : ℕ). shapeIn (s1pScheme p) b a m part .count ≤ walkCalls a m k) e (few b a m part there) in omega arith
 
     -- block n of the data, or of the text, is there
     pub data-count : part % 5 ≡ 2 → n < blocks a
-    unfolding most
+    unfolding walkCalls
     data-count e = of-kind 2 e
 
     pub in-data : part % 5 ≡ 2 → n * 32 < a
     in-data e = omega (arith, data-count e, blocks-are a .1)
 
     pub in-text : part % 5 ≡ 3 → n * 32 < m
-    unfolding most
+    unfolding walkCalls
     in-text e = let h : n < blocks m = of-kind 3 e in omega (arith, blocks-are m .1)

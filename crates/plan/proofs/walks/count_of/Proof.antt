@@ -6,8 +6,8 @@ use native.Mathlib.Omega.{arith}
 use borrow.Author.Needs.{needs}
 use borrow.Author.Tests.{eq-eqb, ne-eqb, lt-ltb, le-ltb}
 use Rattle.s1p.specs.Parts.{unlessEmpty}
-use Rattle.s1p.specs.Counts.{blocks-some}
-use Rattle.plan.specs.Walks.{walkCalls, callsOf, empty-none, empty-not}
+use Rattle.s1p.specs.Counts.{unless-none, unless-some, walkCalls, blocks-some}
+use Rattle.plan.specs.Walks.{callsOf}
 use Rattle.plan.proofs.walks.count_of.Statement.{statement}
 use Rattle.plan.proofs.walks.count_of.Tie as tie
 
@@ -19,7 +19,7 @@ returns-2 : tie.Need-returns-2
 unfolding callsOf
 returns-2 c =
     let a = c .before .before .args in
-    let none : (k : ℕ) → unlessEmpty (a .m) k ≡ 0 = λ k. empty-none (a .m) k (c .if2 .taken) in
+    let none : (k : ℕ) → unlessEmpty (a .m) k ≡ 0 = λ k. unless-none (a .m) k (c .if2 .taken) in
     (simp (le-ltb (a .part) 5 (c .before .if1 .left), none), omega arith)
 
 -- the text's part, of a text that is not empty, has a call
@@ -39,7 +39,7 @@ returns-3 c =
     let w = c .before in
     let e = w .before in
     let a = e .before .before .args in
-    let all : (k : ℕ) → unlessEmpty (a .m) k ≡ k = λ k. empty-not (a .m) k (e .if2 .left) in (
+    let all : (k : ℕ) → unlessEmpty (a .m) k ≡ k = λ k. unless-some (a .m) k (omega (arith, e .if2 .left)) in (
       simp (le-ltb (a .part) 5 (e .before .if1 .left), all, eq-eqb (a .part) 8 (c .if3 .taken)) (ap (λ (n : ℕ). n - 1) (w .walk-calls2 .ensures .0)),
       omega (arith, w .walk-calls2 .ensures .1),
     )
@@ -50,7 +50,7 @@ returns-4 c =
     let w = c .before in
     let e = w .before in
     let a = e .before .before .args in
-    let all : (k : ℕ) → unlessEmpty (a .m) k ≡ k = λ k. empty-not (a .m) k (e .if2 .left) in (
+    let all : (k : ℕ) → unlessEmpty (a .m) k ≡ k = λ k. unless-some (a .m) k (omega (arith, e .if2 .left)) in (
       simp (le-ltb (a .part) 5 (e .before .if1 .left), all, ne-eqb (a .part) 8 (c .if3 .left)) (w .walk-calls2 .ensures .0),
       omega (arith, w .walk-calls2 .ensures .1),
     )

@@ -2,7 +2,7 @@
 -- Assumes nothing.
 use native.Mathlib.Omega.{arith}
 use borrow.Author.Tests.{eq-eqb, ne-eqb}
-use Rattle.plan.specs.Walks.{walkCalls}
+use Rattle.s1p.specs.Counts.{walkCalls}
 use Rattle.plan.proofs.walks.walk_calls.Statement.{statement}
 use Rattle.plan.proofs.walks.walk_calls.Tie as tie
 
