@@ -2,10 +2,12 @@
 -- Assumes nothing.
 use mathlib.Core.Path.{_≡_, refl, ap}
 use mathlib.Core.Bool.{Bool, true, false, _&&_}
-use Prim.Native.Nat.{ℕ, _≤_}
+use Prim.Native.Nat.{ℕ, _≤_, _<_}
 use native.Mathlib.Omega.{arith}
 use lib.Dec.{eqb, leb}
+use borrow.Author.Tests.{leb-true}
 use Rattle.bits.specs.Pick.{pick}
+use Rattle.bits.specs.Every.{and-right}
 use Rattle.scheme.specs.Scheme.{Scheme}
 use Rattle.scheme.specs.Lawful.{LawfulScheme}
 use Rattle.mode.specs.InstanceLaws.{by-instance, lawful-instance}
@@ -17,6 +19,11 @@ use Rattle.s1p.specs.Spook.{spookScheme, lawful-spook}
 -- 1 to 4 are ISAP's, 5 is Spook
 unfoldable pub known : ℕ → Bool
 known i = leb 1 i && leb i 5
+
+-- so each is a byte
+pub known-byte : (i : ℕ) → known i ≡ true → i < 256
+unfolding known
+known-byte i k = omega (arith, leb-true i 5 (and-right (leb 1 i) (leb i 5) k))
 
 unfoldable pub isSpook : ℕ → Bool
 isSpook i = eqb i 5

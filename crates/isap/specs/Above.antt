@@ -4,13 +4,12 @@
 use mathlib.Core.Path.{_≡_, refl, sym, ap, _∙_}
 use mathlib.Core.Bool.{Bool, true, false}
 use mathlib.Core.List.{List}
-use Prim.Native.Nat.{ℕ, _≤_, _<_}
+use Prim.Native.Nat.{ℕ, _≤_}
 use native.Mathlib.Omega.{arith}
-use lib.Dec.{eqb, leb}
+use lib.Dec.{eqb}
 use lib.ListN.{length}
-use borrow.Author.Tests.{eqb-true, eqb-false, eq-eqb, le-leb, leb-true}
+use borrow.Author.Tests.{eqb-true, eqb-false, eq-eqb, le-leb}
 use Rattle.bits.specs.Pick.{pick}
-use Rattle.bits.specs.Every.{and-right}
 use Rattle.bits.specs.Bytes.{Bytes}
 use Rattle.scheme.specs.Machine.{Sealed, Opened, Opened.plaintext, Opened.refused}
 use Rattle.scheme.specs.Scheme.{Scheme, allCount}
@@ -22,11 +21,6 @@ use Rattle.isap.specs.Beginnings.{limitsRefusal}
 use Rattle.isap.specs.Whole.{refusalFor, answered, sealOf, sealOut, sealTag, openedAnswer, openedOut, openOf, openOut}
 use Rattle.isap.specs.Statements.{Seals}
 use Rattle.isap.specs.Fits.{Fits, fits, unrefused}
-
--- an instance's number is a byte
-pub known-byte : (i : ℕ) → known i ≡ true → i < 256
-unfolding known
-known-byte i k = omega (arith, leb-true i 5 (and-right (leb 1 i) (leb i 5) k))
 
 -- the answer 0 is no refusal's
 answered-well : (refusal : ℕ) (r : Answer) → answered refusal r .number ≡ 0 → (refusal ≡ 0) × (r .number ≡ 0)

@@ -12,10 +12,9 @@ use Rattle.bits.specs.Bytes.{Bytes}
 use Rattle.scheme.specs.Machine.{Sealed}
 use Rattle.scheme.specs.Scheme.{Scheme, allCount}
 use Rattle.scheme.specs.Lawful.{LawfulScheme}
-use Rattle.instances.specs.Schemes.{known}
+use Rattle.instances.specs.Schemes.{known, known-byte}
 use Rattle.isap.specs.Whole.{sealOf, sealOut, sealTag, openOf, openOut}
 use Rattle.isap.specs.Statements.{Opens}
-use Rattle.isap.specs.Above.{known-byte}
 use Rattle.isap.specs.Promises.{message-back}
 use Rattle.parcel.specs.declared.Fields.{Fields}
 use Rattle.parcel.specs.declared.Reading.{Reading}
