@@ -1,7 +1,8 @@
 // The call at which a job stands, done by the code of its instance's scheme: what goes with its first round, some of its rounds, what goes
 // with its last, several whole calls, and the decision. A further scheme is a further branch here.
-// Where Spook's code has a call for a sealing and one for each walk of an opening, it is for the compiler: what is called in one place it
-// takes into its caller, and there it takes the buffers of ISAP's calls apart into bytes along with Spook's.
+// Where Spook's code has a call for a sealing and one for each walk of an opening (whose second begins with part 5), it is for the
+// compiler: what is called in one place it takes into its caller, and there it takes the buffers of ISAP's calls apart into bytes along
+// with Spook's.
 mod of_isap;
 
 ghost use mathlib.Core.Path.{_≡_};

@@ -1,4 +1,4 @@
-// Sealing for a station, by ISAP or by Spook: jobs begun and sliced by budgets of permutation rounds, and whole calls.
+// Sealing for a station, by ISAP or by Spook: jobs begun and sliced by budgets of rounds, and whole calls.
 mod beginnings;
 mod exports;
 mod further;

@@ -1,5 +1,5 @@
--- The definition of Shadow-512 computed, on the bytes 0, 1, .., 63. The answer is a program's that was written apart from this definition,
--- bit by bit from document 004's text; no vector of Spook's authors was at hand.
+-- The definition of Shadow-512 computed, on the bytes 0, 1, .., 63. The answer is the second program's (tests/second; it stands in
+-- crates/permutations/stdout, for the third state), written bit by bit from document 004's text; no vector of Spook's authors was at hand.
 -- Assumes nothing.
 use mathlib.Core.Path.{_≡_, refl}
 use mathlib.Core.List.{[], _∷_}
