@@ -1,6 +1,6 @@
 //! The baseline: ISAP v2.0 and Spook in Rust, made for speed on x86-64, with which bench/run compares the library.
 //!
-//! `baseline known FOLDER` holds it to the known answers in FOLDER; `baseline` does the requests of its standard input, as
+//! `baseline known FOLDER` holds it to the files of answers in FOLDER; `baseline` does the requests of its standard input, as
 //! the library's program `measured` does, and prints the same lines.
 
 mod ascon;

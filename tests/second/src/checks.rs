@@ -1,13 +1,13 @@
-//! What Spook's parts owe to one another, checked because no published answers of it are at hand. None of this tells whether a table or a
-//! matrix was read rightly; each fails where what is made of them does not fit together.
+//! What stands in for answers that Spook's authors published, of which none is at hand: its parts are held to what document 004 prints a
+//! second time, and to what they owe to one another. A mode that is read wrongly but fits together would pass.
 
 use crate::numbers::Numbers;
 use crate::paper::{ended, Given};
 use crate::plan::rounds;
 use crate::record::{OPENING, SEALING, WELL, WRONG_TAG};
 use crate::spook::clyde::Keyed;
-use crate::spook::layers::constant;
-use crate::spook::{shadow, SPOOK};
+use crate::spook::layers::{self, constant, Rows};
+use crate::spook::{printed, shadow, SPOOK};
 
 const LENGTHS: [usize; 14] = [0, 1, 15, 16, 17, 31, 32, 33, 63, 64, 65, 95, 128, 256];
 
@@ -33,6 +33,25 @@ fn any_bytes<const N: usize>(numbers: &mut Numbers) -> [u8; N] {
 
 fn register_runs_as_printed() -> bool {
     (0..12).all(|r| constant(r) == PRINTED[r])
+}
+
+/// Table and matrices, bit by bit, and what inverts them, are the paper's word formulas.
+fn layers_are_the_printed_formulas() -> bool {
+    let pairs: [(fn(&mut Rows), fn(Rows) -> Rows); 4] = [
+        (layers::s_layer, printed::s),
+        (layers::s_layer_undone, printed::s_undone),
+        (layers::l_layer, printed::l),
+        (layers::l_layer_undone, printed::l_undone),
+    ];
+    let mut numbers = Numbers::new(605);
+    (0..1000).all(|_| {
+        let before: Rows = std::array::from_fn(|_| numbers.next() as u32);
+        pairs.iter().all(|(layer, formula)| {
+            let mut after = before;
+            layer(&mut after);
+            after == formula(before)
+        })
+    })
 }
 
 fn cipher_and_inverse_undo_one_another() -> bool {
@@ -125,6 +144,7 @@ fn counts_agree(given: &Given) -> bool {
 pub fn report() -> (String, bool) {
     let checks = [
         ("the register runs through the printed constants", register_runs_as_printed()),
+        ("table and matrices are the printed formulas", layers_are_the_printed_formulas()),
         ("Clyde-128 and its inverse undo one another", cipher_and_inverse_undo_one_another()),
         ("the diffusion layer mixes bundles and undoes itself", diffusion_mixes_and_undoes_itself()),
         ("what was sealed opens to itself", for_lengths(602, opens_to_itself)),

@@ -2,6 +2,7 @@
 
 pub mod clyde;
 pub mod layers;
+pub mod printed;
 pub mod shadow;
 
 /// The number of this instance.
