@@ -1,0 +1,4 @@
+mod Formula
+mod Steps
+pub mod Tables
+pub mod Jobs
