@@ -60,7 +60,12 @@ module _ (p : Cipher) (l : LawfulCipher p) (x : Input) (hn : length (x .nonce) �
       go true false = refl
       go false b = refl
 
-  -- ---- the first parts of a walk, and what lies beyond the 64 bytes
+  -- ---- the first parts of a walk, of so many rounds, and the state that they leave
+
+  record First (parts : Bool → List (Part Machine)) (n : ℕ) (s : List ℕ) : Type 0 where
+    blind : (w : Bool) → BlindParts 64 (parts w)
+    long : (w : Bool) → n ≡ roundsIn (shapes (parts w))
+    leaves : (w : Bool) (m : Machine) → Exact 64 m → run (row (parts w)) m .state ≡ s
 
   abbrev starting : Bool → List (Part Machine)
   starting w = seed p x 1 ∷ begin p x w 1 ∷ []
@@ -68,41 +73,38 @@ module _ (p : Cipher) (l : LawfulCipher p) (x : Input) (hn : length (x .nonce) �
   abbrev absorbing : Bool → List (Part Machine)
   absorbing w = seed p x 1 ∷ begin p x w 1 ∷ assocs p x w (u p x) ∷ []
 
-  module _ (w : Bool) (t r : List ℕ) (m : Machine) (e : Exact 64 m) where
-    starts : run (row (starting w)) m .state ≡ S0
-    starts =
-        ap Machine.state
-        (and-then (seed p x 1) (begin p x w 1 ∷ []) m (r-seed p l x hn m e)
-        (and-then (begin p x w 1) [] _ (r-begin p l x hn w zero64 (m .out) (m .tag)) (done _)))
-        ∙ due-state w 0 _
+  first-starting : First starting 24 S0
+  unfolding BlindParts roundsIn shapes seed begin
+  first-starting =
+      record {
+        blind = λ w. let b = walk-blind p l x hn w 1 (u p x) (v p x) in (b .0, (b .1 .0, tt));
+        long = λ w. refl;
+        leaves = λ w m e.
+            ap Machine.state
+            (and-then (seed p x 1) (begin p x w 1 ∷ []) m (r-seed p l x hn m e)
+            (and-then (begin p x w 1) [] _ (r-begin p l x hn w zero64 (m .out) (m .tag)) (done _)))
+            ∙ due-state w 0 _;
+      }
 
-    absorbs : run (row (absorbing w)) m .state ≡ Sλ
-    absorbs =
-        ap Machine.state
-        (and-then (seed p x 1) (begin p x w 1 ∷ assocs p x w (u p x) ∷ []) m (r-seed p l x hn m e)
-        (and-then (begin p x w 1) (assocs p x w (u p x) ∷ []) _ (r-begin p l x hn w zero64 (m .out) (m .tag))
-        (and-then (assocs p x w (u p x)) [] _ (r-data p l x hn w zero64 (m .out) (m .tag)) (done _))))
-        ∙ due-state w (u p x) _ ∙ sym (behind-is p l (x .key) (x .nonce) (x .assoc) hn)
+  first-absorbing : First absorbing (24 + 12 * u p x) Sλ
+  unfolding BlindParts roundsIn shapes seed begin assocs
+  first-absorbing =
+      record {
+        blind = λ w. let b = walk-blind p l x hn w 1 (u p x) (v p x) in (b .0, (b .1 .0, (b .1 .1 .0, tt)));
+        long = λ w. omega arith;
+        leaves = λ w m e.
+            ap Machine.state
+            (and-then (seed p x 1) (begin p x w 1 ∷ assocs p x w (u p x) ∷ []) m (r-seed p l x hn m e)
+            (and-then (begin p x w 1) (assocs p x w (u p x) ∷ []) _ (r-begin p l x hn w zero64 (m .out) (m .tag))
+            (and-then (assocs p x w (u p x)) [] _ (r-data p l x hn w zero64 (m .out) (m .tag)) (done _))))
+            ∙ due-state w (u p x) _ ∙ sym (behind-is p l (x .key) (x .nonce) (x .assoc) hn);
+      }
 
-    tails-starts : run (row (starting w)) (with-tails t r m) .state ≡ S0 ++ t
-    unfolding BlindParts
-    tails-starts =
-        let b = walk-blind p l x hn w 1 (u p x) (v p x) in
-        ap Machine.state (blind-run 64 (starting w) (b .0, (b .1 .0, tt)) .apart t r m e) ∙ ap (λ (s : List ℕ). s ++ t) starts
-
-    tails-absorbs : run (row (absorbing w)) (with-tails t r m) .state ≡ Sλ ++ t
-    unfolding BlindParts
-    tails-absorbs =
-        let b = walk-blind p l x hn w 1 (u p x) (v p x) in
-        ap Machine.state (blind-run 64 (absorbing w) (b .0, (b .1 .0, (b .1 .1 .0, tt))) .apart t r m e) ∙ ap (λ (s : List ℕ). s ++ t) absorbs
-
-  started-rounds : (w : Bool) → 24 ≡ roundsIn (shapes (starting w))
-  unfolding roundsIn shapes seed begin
-  started-rounds w = refl
-
-  absorbed-rounds : (w : Bool) → 24 + 12 * u p x ≡ roundsIn (shapes (absorbing w))
-  unfolding roundsIn shapes seed begin assocs
-  absorbed-rounds w = omega arith
+  -- with what lies beyond the 64 bytes
+  tails-left : {bs : Bool → List (Part Machine)} {n : ℕ} {s : List ℕ} → First bs n s → (w : Bool) (t r : List ℕ) (m : Machine) → Exact 64 m
+      → run (row (bs w)) (with-tails t r m) .state ≡ s ++ t
+  tails-left {bs} f w t r m e =
+      ap Machine.state (blind-run 64 (bs w) (f .blind w) .apart t r m e) ∙ ap (λ (s : List ℕ). s ++ t) (f .leaves w m e)
 
   module _ (m : Machine) (ready : Ready (s1pScheme p) x m) where
     abbrev t : List ℕ
@@ -117,16 +119,25 @@ module _ (p : Cipher) (l : LawfulCipher p) (x : Input) (hn : length (x .nonce) �
     unfolding EachSome shapes
     closing-each = (omega (arith, closing-some p x (x .sealing)), tt)
 
+    -- first parts, and the others after them
+    at-first : {bs : Bool → List (Part Machine)} {n : ℕ} {s : List ℕ} → First bs n s → (ds : List (Part Machine)) → EachSome (shapes ds)
+        → before p x ++ closing p x (x .sealing) ∷ [] ≡ bs (x .sealing) ++ ds → n ≤ verifyRounds (length (x .assoc)) (length (x .text))
+        → halted (course p x) n m .state ≡ s ++ t
+    at-first {bs} {n} f ds some is h =
+        let b = x .sealing in
+        ap Machine.state
+        (early p x m n h
+        ∙ ap (λ (cs : List (Part Machine)). stopped (row cs) n m) is
+        ∙ at-parts (bs b) ds some n (f .long b) m
+        ∙ ap (run (row (bs b))) (split p l x hn m ready))
+        ∙ tails-left f b t r (fore p l x hn m ready) (fore-exact p l x hn m ready)
+
     -- after 24 rounds
     pub state-started : halted (course p x) 24 m .state ≡ start p (x .key) (x .nonce) ++ drop 64 (m .state)
     unfolding EachSome shapes assocs texts verifyRounds
     state-started =
         let b = x .sealing in
-        ap Machine.state
-        (early p x m 24 (omega arith)
-        ∙ at-parts (starting b) (assocs p x b (u p x) ∷ texts p x b (v p x) ∷ closing p x b ∷ []) (lit< tt, (lit< tt, closing-each)) 24 (started-rounds b) m
-        ∙ ap (run (row (starting b))) (split p l x hn m ready))
-        ∙ tails-starts b t r (fore p l x hn m ready) (fore-exact p l x hn m ready)
+        at-first first-starting (assocs p x b (u p x) ∷ texts p x b (v p x) ∷ closing p x b ∷ []) (lit< tt, (lit< tt, closing-each)) refl (omega arith)
 
     -- after 24 + 12 u
     pub state-absorbed : halted (course p x) (24 + 12 * blocks (length (x .assoc))) m .state
@@ -134,12 +145,7 @@ module _ (p : Cipher) (l : LawfulCipher p) (x : Input) (hn : length (x .nonce) �
     unfolding EachSome shapes texts verifyRounds
     state-absorbed =
         let b = x .sealing in
-        let n : ℕ = 24 + 12 * u p x in
-        ap Machine.state
-        (early p x m n (omega arith)
-        ∙ at-parts (absorbing b) (texts p x b (v p x) ∷ closing p x b ∷ []) (lit< tt, closing-each) n (absorbed-rounds b) m
-        ∙ ap (run (row (absorbing b))) (split p l x hn m ready))
-        ∙ tails-absorbs b t r (fore p l x hn m ready) (fore-exact p l x hn m ready)
+        at-first first-absorbing (texts p x b (v p x) ∷ closing p x b ∷ []) (lit< tt, closing-each) refl (omega arith)
 
     -- before the closing call
     pub state-walked : halted (course p x) (closeAfter (length (x .assoc)) (length (x .text))) m .state
@@ -176,36 +182,31 @@ module _ (p : Cipher) (l : LawfulCipher p) (x : Input) (hn : length (x .nonce) �
           ∙ opening-verified p l x hn m ready d hg
 
       -- of a text there is all of the second walk
-      going : (k n : ℕ) → n ≡ verifyRounds (length (x .assoc)) (length (x .text)) + k
-          → halted (course p x) n m
-          ≡ stopped (row (verifyParts p x ++ walk p x true 1 (u p x) (v p x - 1))) (roundsIn (shapes (verifyParts p x)) + k) m
-      going k n at =
+      again : {bs : Bool → List (Part Machine)} {n : ℕ} {s : List ℕ} → First bs n s → (ds : List (Part Machine)) → EachSome (shapes ds)
+          → walk p x true 1 (u p x) (v p x - 1) ≡ bs true ++ ds
+          → halted (course p x) (verifyRounds (length (x .assoc)) (length (x .text)) + n) m .state ≡ s ++ t
+      again {bs} {n} f ds each is =
           let w = length (x .text) in
           let e1 = unless-some w 1 some in
           let eu = unless-some w (u p x) some in
           let ev = unless-some w (v p x - 1) some in
-          let i : n ≡ roundsIn (shapes (verifyParts p x)) + k = omega (arith, opening-rounds p l x hn m ready d) in
-          halted-going (course p x) (lawful p x) m e n
-          ∙ ap₂ (λ cs i. stopped (row cs) i m) (opening-parts p l x hn m ready d) i
-          ∙ (λ i. stopped (row (verifyParts p x ++ walk p x true (e1 i) (eu i) (ev i))) (roundsIn (shapes (verifyParts p x)) + k) m)
+          let at : verifyRounds (length (x .assoc)) w + n ≡ roundsIn (shapes (verifyParts p x)) + n = omega (arith, opening-rounds p l x hn m ready d) in
+          ap Machine.state
+          (halted-going (course p x) (lawful p x) m e _
+          ∙ ap₂ (λ cs i. stopped (row cs) i m) (opening-parts p l x hn m ready d) at
+          ∙ (λ i. stopped (row (verifyParts p x ++ walk p x true (e1 i) (eu i) (ev i))) (roundsIn (shapes (verifyParts p x)) + n) m)
+          ∙ ap (λ (cs : List (Part Machine)). stopped (row (verifyParts p x ++ cs)) (roundsIn (shapes (verifyParts p x)) + n) m) is
+          ∙ behind-parts (verifyParts p x) (bs true) ds each n (f .long true) m
+          ∙ ap (run (row (bs true))) verified)
+          ∙ tails-left f true t r decided decided-exact
 
       pub state-started-again : halted (course p x) (verifyRounds (length (x .assoc)) (length (x .text)) + 24) m .state
           ≡ start p (x .key) (x .nonce) ++ drop 64 (m .state)
       unfolding EachSome shapes assocs texts
       state-started-again =
-          ap Machine.state
-          (going 24 _ refl
-          ∙ behind-parts (verifyParts p x) (starting true) (assocs p x true (u p x) ∷ texts p x true (v p x - 1) ∷ []) (lit< tt, (lit< tt, tt)) 24 (started-rounds true) m
-          ∙ ap (run (row (starting true))) verified)
-          ∙ tails-starts true t r decided decided-exact
+          again first-starting (assocs p x true (u p x) ∷ texts p x true (v p x - 1) ∷ []) (lit< tt, (lit< tt, tt)) refl
 
       pub state-absorbed-again : halted (course p x) (verifyRounds (length (x .assoc)) (length (x .text)) + (24 + 12 * blocks (length (x .assoc)))) m .state
           ≡ absorb p (parsed (x .assoc)) (start p (x .key) (x .nonce)) ++ drop 64 (m .state)
       unfolding EachSome shapes texts
-      state-absorbed-again =
-          let k : ℕ = 24 + 12 * u p x in
-          ap Machine.state
-          (going k _ refl
-          ∙ behind-parts (verifyParts p x) (absorbing true) (texts p x true (v p x - 1) ∷ []) (lit< tt, tt) k (absorbed-rounds true) m
-          ∙ ap (run (row (absorbing true))) verified)
-          ∙ tails-absorbs true t r decided decided-exact
+      state-absorbed-again = again first-absorbing (texts p x true (v p x - 1) ∷ []) (lit< tt, tt) refl
