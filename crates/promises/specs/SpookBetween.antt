@@ -1,6 +1,7 @@
 -- Request (iv)'s rule between two rounds, on the record and the output of a job of Spook from a beginning: which bytes of the output are
--- document 004's, when the tag is made, when the session bytes hold Shadow's last state, and what the state is within a Clyde call, after every
--- number of rounds and every row of budgets. Session bytes and state go by the rounds done, so an ended record keeps those of its last round.
+-- document 004's, when the tag is made, when the session bytes hold Shadow's last state, and what the state is within a Clyde call and at
+-- the end of a Shadow call that gives a state which 004 names, after every number of rounds and every row of budgets. Session bytes and state
+-- go by the rounds done, so an ended record keeps those of its last round.
 -- Assumes nothing.
 use mathlib.Core.Path.{_≡_, sym, ap, _∙_, subst}
 use mathlib.Core.Bool.{Bool, true, false}
