@@ -22,13 +22,14 @@ mod sealed;
 mod spook;
 mod steps;
 mod tables;
+mod tasks;
 mod threads;
 mod written;
 
 use std::io::Write;
 
 const USAGE: &str = "usage: second permutations states|answers, plan rows|many requests|lines, cases file|summary, \
-    parcels cases file|summary, tables, answers, checks, known FOLDER, sealed FILE, or parcels FILE";
+    parcels cases file|summary, tasks, tables, answers, checks, known FOLDER, sealed FILE, or parcels FILE";
 
 /// A report; where it tells a failure it goes to the error output and the program fails.
 fn passed((report, failed): (String, bool)) -> String {
@@ -56,6 +57,7 @@ fn main() {
         ["checks"] => passed(checks::report()).into_bytes(),
         ["parcels", "cases", "file"] => parcels::file(),
         ["parcels", "cases", "summary"] => parcels::summary().into_bytes(),
+        ["tasks"] => tasks::lines().into_bytes(),
         ["tables"] => tables::file().into_bytes(),
         ["sealed", file] => passed(lines::report(file, "sealed", sealed::agrees)).into_bytes(),
         ["parcels", file] => passed(lines::report(file, "parcels", parcels::agrees)).into_bytes(),
