@@ -43,6 +43,8 @@ END {
         whole()
     else if (part == "slices")
         slices()
+    else if (part == "kept")
+        kept()
     else if (part == "times")
         times()
     else if (part == "stack")
@@ -105,7 +107,7 @@ function stand(    i, all, met, missed) {
 
 function furthest(    k, worst, f) {
     for (k in ours)
-        if (k !~ /^3/ && (worst == "" || ratio(k) > ratio(worst)))
+        if (k !~ /^[34]/ && (worst == "" || ratio(k) > ratio(worst)))
             worst = k
     split(worst, f, SUBSEP)
     printf "Of whole calls it is furthest from the baseline when %s %s bytes with %s of associated data in instance %s: %.2f times.\n", \
@@ -155,6 +157,17 @@ function slices(    i, y) {
     for (i = 1; i <= instances; i++)
         for (y = 1; y <= 6; y++)
             slices_row(i, texts[y])
+}
+
+# The record handed in and out, and kept, for each of three budgets.
+function kept(    i, x) {
+    print "| Instance | rounds | budget 1: in and out | kept | 8: in and out | kept | 64: in and out | kept |\n|---|---|---|---|---|---|---|---|"
+    for (i = 1; i <= instances; i++) {
+        printf "| %d %s | %s ", i, name[i], spelled(sealing_rounds(i, 16, 64))
+        for (x = 1; x <= 3; x++)
+            printf "| %s | %s ", spelled(ours[key(3, i, 16, 64, budgets[x])]), spelled(ours[key(4, i, 16, 64, budgets[x])])
+        print "|"
+    }
 }
 
 # The lowest and the highest of what the lines of a request say.

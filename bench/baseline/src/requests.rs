@@ -1,7 +1,7 @@
 //! The benchmark's requests, as crates/measured has them: 14 bytes each (operation, instance, the two lengths in two bytes,
 //! budget and repetitions in four), answered by a line with a checksum of what the last repetition left.
 //!
-//! Operations: 1 whole sealings, 2 whole openings, 3 sealings in slices, for which the baseline seals whole.
+//! Operations: 1 whole sealings, 2 whole openings, 3 sealings in slices and 4 by a host task, for which the baseline seals whole.
 
 use crate::instances::{self, Lent};
 use std::io::Read;

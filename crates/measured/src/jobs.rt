@@ -54,7 +54,9 @@ fn seal_whole(
     tag
 }
 
-// No job has more than 15,816 rounds, so a budget of one round needs no more slices.
+// No job has more rounds, so a budget of one round needs no more slices.
+const MOST_SLICES: u32 = 15816;
+
 fn seal_in_slices(
     r: Request,
     nonce: [u8; 16],
@@ -67,7 +69,7 @@ fn seal_in_slices(
     let mut number = begun.number;
     let mut job = begun.job;
     let mut slices: u32 = 0;
-    while slices < 15816 && number == 100 {
+    while slices < MOST_SLICES && number == 100 {
         let sliced = isap::slice(job, assoc, text, out, r.budget);
         number = sliced.number;
         job = sliced.job;
@@ -76,9 +78,21 @@ fn seal_in_slices(
     job.tag
 }
 
+// The same by a host task that keeps the record.
+fn seal_kept(r: Request, nonce: [u8; 16], assoc: &[u8], text: &[u8], out: &mut [u8]) -> [u8; 16] {
+    let k = key();
+    let begun = isap::begin_seal(r.instance, &k, &nonce, r.assoc, r.text);
+    let kept = task::run(begun.job, assoc, text, out, r.budget, MOST_SLICES);
+    let job = kept.job;
+    job.tag
+}
+
 fn seal_once(r: Request, nonce: [u8; 16], assoc: &[u8], text: &[u8], out: &mut [u8]) -> [u8; 16] {
     if r.operation == 3 {
         return seal_in_slices(r, nonce, assoc, text, out);
+    }
+    if r.operation == 4 {
+        return seal_kept(r, nonce, assoc, text, out);
     }
     seal_whole(r.instance, nonce, assoc, text, out)
 }
