@@ -16,7 +16,7 @@ pub fn same(a: &[u8], b: &[u8]) -> bool {
     equal
 }
 
-// A length from the file, kept within a string's.
+// A length kept within a string's.
 pub fn within(s: &[u8], count: u32) -> usize
     ensures { λ r. ⌜ Counts r (now (s .entry)) ⌝ }
 {

@@ -19,15 +19,15 @@ use Rattle.isap.specs.Begins.{sealing-begins, opening-begins}
 use Rattle.isap.specs.Budgets.{Progress, sum, onward, sliced, budgets}
 use Rattle.station.specs.Statements.{KeepsSlice}
 
--- one call: what it answers, and the record and the output that it leaves
-pub record Call : Type 0 where
+-- one kept slice: what it answers, and the record and the output that it leaves
+pub record KeptSlice : Type 0 where
   pub answer : Answer
   pub job : Job
   pub out : List ℕ
 
 module _ (of : ℕ → Scheme) (assoc text : List ℕ) where
   -- a row of calls, each with its budget, on the record and the output that the one before it left: from p they come to q
-  abbrev pub Keeps : List ℕ → List Call → Progress → Progress → Type 0
+  abbrev pub Keeps : List ℕ → List KeptSlice → Progress → Progress → Type 0
   Keeps [] [] p q = q ≡ p
   Keeps [] (c ∷ cs) p q = ⊥
   Keeps (b ∷ bs) [] p q = ⊥
@@ -36,7 +36,7 @@ module _ (of : ℕ → Scheme) (assoc text : List ℕ) where
       × Keeps bs cs (record { job = c .job; out = c .out; rounds = p .rounds + c .answer .rounds }) q
 
   -- it comes to what as many slices by value come to
-  pub kept-row : (bs : List ℕ) (cs : List Call) (p q : Progress) → Keeps bs cs p q → q ≡ sliced of assoc text bs p
+  pub kept-row : (bs : List ℕ) (cs : List KeptSlice) (p q : Progress) → Keeps bs cs p q → q ≡ sliced of assoc text bs p
   unfolding sliced onward
   kept-row [] [] p q h = h
   kept-row [] (c ∷ cs) p q h = absurd h
@@ -56,27 +56,28 @@ module _ (of : ℕ → Scheme) (laws : (i : ℕ) → LawfulScheme (of i)) (j : J
         rounds = min n (lasts (courseOf of j assoc text) (machineOf j out));
       }
 
-  pub kept-budgets : (bs : List ℕ) (cs : List Call) (q : Progress) → Keeps of assoc text bs cs (record { job = j; out = out; rounds = 0 }) q → Reached (sum bs) q
+  pub kept-budgets : (bs : List ℕ) (cs : List KeptSlice) (q : Progress) → Keeps of assoc text bs cs (record { job = j; out = out; rounds = 0 }) q → Reached (sum bs) q
   kept-budgets bs cs q k = kept-row of assoc text bs cs _ q k ∙ budgets of laws j assoc text out h bs
 
 -- ---- from the beginnings, in the words of what the calls promise
 
-module _ (instance : ℕ) (key nonce assoc text out : List ℕ) (long : length out ≡ length text) (bs : List ℕ) (cs : List Call) (q : Progress)
-    (r : begins.Begun) (well : r .number ≡ 100) (kept : Keeps schemeOf assoc text bs cs (record { job = r .job; out = out; rounds = 0 }) q) where
-  pub sealing-begun : BeginsSealing schemeOf instance key nonce (length assoc) (length text) r → Begun schemeOf (r .job) assoc text out
-  sealing-begun e =
-      subst (λ (b : begins.Begun). Begun schemeOf (b .job) assoc text out) (sym e)
-      (sealing-begins schemeOf instance key nonce (length assoc) (length text) assoc text out refl refl long (ap (λ (b : begins.Begun). b .number) (sym e) ∙ well))
+module _ (assoc text out : List ℕ) (r : begins.Begun) (well : r .number ≡ 100) where
+  -- what holds of the record of one answer holds of that of an equal one
+  begun-by : (x : begins.Begun) → r ≡ x → (x .number ≡ 100 → Begun schemeOf (x .job) assoc text out) → Begun schemeOf (r .job) assoc text out
+  begun-by x e k = subst (λ (b : begins.Begun). Begun schemeOf (b .job) assoc text out) (sym e) (k (ap (λ (b : begins.Begun). b .number) (sym e) ∙ well))
 
-  pub opening-begun : (tag : List ℕ) → BeginsOpening schemeOf instance key nonce tag (length assoc) (length text) r → Begun schemeOf (r .job) assoc text out
-  opening-begun tag e =
-      subst (λ (b : begins.Begun). Begun schemeOf (b .job) assoc text out) (sym e)
-      (opening-begins schemeOf instance key nonce (length assoc) (length text) assoc text out refl refl long tag (ap (λ (b : begins.Begun). b .number) (sym e) ∙ well))
+  module _ (instance : ℕ) (key nonce : List ℕ) (long : length out ≡ length text) where
+    pub sealing-begun : BeginsSealing schemeOf instance key nonce (length assoc) (length text) r → Begun schemeOf (r .job) assoc text out
+    sealing-begun e = begun-by _ e (sealing-begins schemeOf instance key nonce (length assoc) (length text) assoc text out refl refl long)
 
-  pub sealing-kept : (e : BeginsSealing schemeOf instance key nonce (length assoc) (length text) r)
-      → Reached schemeOf lawful-scheme (r .job) assoc text out (sealing-begun e) (sum bs) q
-  sealing-kept e = kept-budgets schemeOf lawful-scheme (r .job) assoc text out (sealing-begun e) bs cs q kept
+    pub opening-begun : (tag : List ℕ) → BeginsOpening schemeOf instance key nonce tag (length assoc) (length text) r → Begun schemeOf (r .job) assoc text out
+    opening-begun tag e = begun-by _ e (opening-begins schemeOf instance key nonce (length assoc) (length text) assoc text out refl refl long tag)
 
-  pub opening-kept : (tag : List ℕ) (e : BeginsOpening schemeOf instance key nonce tag (length assoc) (length text) r)
-      → Reached schemeOf lawful-scheme (r .job) assoc text out (opening-begun tag e) (sum bs) q
-  opening-kept tag e = kept-budgets schemeOf lawful-scheme (r .job) assoc text out (opening-begun tag e) bs cs q kept
+    module _ (bs : List ℕ) (cs : List KeptSlice) (q : Progress) (kept : Keeps schemeOf assoc text bs cs (record { job = r .job; out = out; rounds = 0 }) q) where
+      pub sealing-kept : (e : BeginsSealing schemeOf instance key nonce (length assoc) (length text) r)
+          → Reached schemeOf lawful-scheme (r .job) assoc text out (sealing-begun e) (sum bs) q
+      sealing-kept e = kept-budgets schemeOf lawful-scheme (r .job) assoc text out (sealing-begun e) bs cs q kept
+
+      pub opening-kept : (tag : List ℕ) (e : BeginsOpening schemeOf instance key nonce tag (length assoc) (length text) r)
+          → Reached schemeOf lawful-scheme (r .job) assoc text out (opening-begun tag e) (sum bs) q
+      opening-kept tag e = kept-budgets schemeOf lawful-scheme (r .job) assoc text out (opening-begun tag e) bs cs q kept

@@ -1,4 +1,4 @@
--- Turns one by one: a task that has one left does it, and one that has none left is over.
+-- Turns one by one: a task that has one left does it, and one that has none left is over. A reader may skip this.
 -- Assumes nothing.
 use mathlib.Core.Path.{_≡_, refl}
 use mathlib.Core.Bool.{Bool, true, false}

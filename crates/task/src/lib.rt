@@ -1,4 +1,4 @@
-// A host task that keeps the record of one job in its own memory and serves the sampler between two slices of it.
+// A host task that keeps the record of one job in its own memory and serves the sampler after each slice of it.
 ghost use mathlib.Core.Path.{_≡_};
 ghost use Prim.Native.Nat.{_+_, _-_, _<_};
 ghost use lib.Dec.{eqb, ltb};
@@ -16,7 +16,7 @@ pub struct Turns {
     pub served: u32,
     // the most rounds that it waited for
     pub waited: u32,
-    // the number of the last slice
+    // the number of the last slice, 100 where there was none
     pub number: u32,
 }
 

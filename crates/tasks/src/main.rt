@@ -100,9 +100,39 @@ fn with_a_short_output(m: Message) -> Run {
     run
 }
 
+// Turns of one round, after which some of the output's blocks are written and some are not.
+fn amid_the_text(instance: u32) -> u32 {
+    match instance {
+        1 => 163,
+        3 => 159,
+        5 => 40,
+        _ => 1572,
+    }
+}
+
+// Turns of 25 rounds, one fewer than the sealing needs.
+fn one_too_few(instance: u32) -> u32 {
+    match instance {
+        1 => 18,
+        2 => 131,
+        3 => 16,
+        4 => 130,
+        _ => 2,
+    }
+}
+
 // Runs that have too few turns, or whose first slice is refused.
 fn short_of_the_end(m: Message) {
-    said(b"cut", m, of_sealing(m, sealing(m), 25, 4));
+    said(
+        b"part",
+        m,
+        of_sealing(m, sealing(m), 1, amid_the_text(m.instance)),
+    );
+    said(
+        b"cut",
+        m,
+        of_sealing(m, sealing(m), 25, one_too_few(m.instance)),
+    );
     said(b"none", m, of_sealing(m, sealing(m), 0, 3));
     said(b"idle", m, of_sealing(m, sealing(m), 25, 0));
     let ended = record_of(done(m, whole_sealing(m, 25)));

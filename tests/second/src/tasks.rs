@@ -17,6 +17,8 @@ const STOPPED: usize = 2;
 const BUDGETS: [u32; 3] = [1, 25, 1000];
 /// More turns than a job has rounds.
 const ENOUGH: u32 = 20_000;
+/// For each instance turns of one round, after which some of the output's blocks are written and some are not.
+const AMID_THE_TEXT: [u32; 5] = [163, 1572, 159, 1572, 40];
 
 /// What a job is given, and what the output holds before each run.
 struct Message {
@@ -109,15 +111,28 @@ fn ended_lines(message: &Message, budget: u32) -> String {
     [line("seal", &message.given, allowed, &sealed), opened("open", right), opened("wrong", wrong)].concat()
 }
 
-/// Runs that have too few turns, or whose first slice is refused.
-fn stopped_lines(message: &Message) -> String {
+/// Runs with too few turns: amid the text, and one turn short of the end, where the output is whole and the job is not.
+fn unended_lines(message: &Message) -> String {
+    let (given, before) = (&message.given, &message.before);
+    let whole = sealed(message, 25);
+    let amid = Allowed { budget: 1, turns: AMID_THE_TEXT[given.instance as usize - 1] };
+    let cut = Allowed { budget: 25, turns: whole.served - 1 };
+    let ran = |allowed: Allowed| run(beginning(given, SEALING, [0; 16]), given, before, allowed);
+    let (part, short) = (ran(amid), ran(cut));
+    assert!(part.number == NOT_ENDED && short.number == NOT_ENDED, "neither has ended");
+    assert!(part.left.out != *before && part.left.out != whole.left.out, "some of the output is written");
+    assert!(short.left.out == whole.left.out, "all of the output is written");
+    [line("part", given, amid, &part), line("cut", given, cut, &short)].concat()
+}
+
+/// Runs of no rounds or no turns, and of which the first slice is refused.
+fn idle_lines(message: &Message) -> String {
     let (given, before) = (&message.given, &message.before[..]);
     let begun = beginning(given, SEALING, [0; 16]);
     let finished = sealed(message, 25).left.record;
     let forged = Record { done: 1, ..begun.clone() };
     let shorter = &before[..before.len() - 1];
     let runs = [
-        ("cut", &begun, before, Allowed { budget: 25, turns: 4 }),
         ("none", &begun, before, Allowed { budget: 0, turns: 3 }),
         ("idle", &begun, before, Allowed { budget: 25, turns: 0 }),
         ("again", &finished, before, Allowed { budget: 25, turns: 5 }),
@@ -131,9 +146,9 @@ fn stopped_lines(message: &Message) -> String {
 }
 
 fn of_instance(number: u32) -> String {
-    let messages = [0, 1, 2, 3].map(|index| message(number, index));
+    let messages: Vec<Message> = (0..MESSAGES.len()).map(|index| message(number, index)).collect();
     let ended: String = messages.iter().flat_map(|message| BUDGETS.map(|budget| ended_lines(message, budget))).collect();
-    ended + &stopped_lines(&messages[STOPPED])
+    ended + &unended_lines(&messages[STOPPED]) + &idle_lines(&messages[STOPPED])
 }
 
 pub fn lines() -> String {

@@ -65,7 +65,7 @@ use Rattle.station.proofs.slice_kept.Code as code
 abbrev stayed : Stays (slice-kept.ended .signature .params) (slice-kept.ended .kept)
 stayed = (stay-ref (0 ∷ []) tt (plain (λ _. T.the-row)), (stay-dropped (shrSliceOf (1 ∷ []) tt (plain (λ _. u8))) yes, (stay-dropped (shrSliceOf (2 ∷ []) tt (plain (λ _. u8))) yes, (gave-slice (3 ∷ []) tt (plain (λ _. u8)), (stay-dropped (plain (λ _. u32)) yes, tt)))))
 
--- the contract that the proof cites
+-- all that is known of `slice`
 abbrev Slice : {M : Type 1} (𝓤 : URA M) (H : Heap 𝓤) (A : Atoms 𝓤) (mem : Memory → SProp 𝓤) (run : Routine → Fun 𝓤) → Contract 𝓤
 Slice 𝓤 H A mem run = tripleOf 𝓤 H A slice.signature (slice.spec 𝓤 H A mem run)
 

@@ -4,7 +4,7 @@
 -- No field of the record is looked at, and of the two functions called nothing is known but that they meet their contracts.
 -- Assumes nothing.
 use mathlib.Core.Path.{_≡_, refl, sym, ap, subst}
-use mathlib.Core.Bool.{Bool, true}
+use mathlib.Core.Bool.{Bool}
 use mathlib.Core.List.{[], _∷_, List}
 use Prim.Native.Nat.{ℕ, zero, suc, _+_, _<_, _^_}
 use native.Mathlib.Decide.{decLt}
@@ -86,7 +86,7 @@ use Rattle.task.proofs.run.Code.Mir.{turn-1, t-4}
 abbrev stayed : Stays (task.ended .signature .params) (task.ended .kept)
 stayed = (stay-dropped (plain (λ _. T.the-row)) exit.yes, (stay-dropped (shrSliceOf (0 ∷ []) tt (plain (λ _. u8))) exit.yes, (stay-dropped (shrSliceOf (1 ∷ []) tt (plain (λ _. u8))) exit.yes, (gave-slice (2 ∷ []) tt (plain (λ _. u8)), (stay-dropped (plain (λ _. u32)) exit.yes, (stay-dropped (plain (λ _. u32)) exit.yes, tt))))))
 
--- the contracts that the proof cites
+-- all that is known of the two functions called
 abbrev SliceKept : {M : Type 1} (𝓤 : URA M) (H : Heap 𝓤) (A : Atoms 𝓤) (mem : Memory → SProp 𝓤) (run : Routine → Fun 𝓤) → Contract 𝓤
 SliceKept 𝓤 H A mem run = tripleOf 𝓤 H A slice.signature (slice.spec 𝓤 H A mem run)
 
@@ -225,7 +225,7 @@ module _ {M : Type 1} (𝓤 : URA M) (H : Heap 𝓤) (A : Atoms 𝓤) (W : Given
     abbrev Below : ℕ → SProp 𝓤
     Below k = ex 𝓤 (λ (i : ℕ). guard 𝓤 (i < k) (Inv i))
 
-    -- when the loop is left, the rest of the body runs
+    -- what is left to do after the last turn
     abbrev Left : Out → SProp 𝓤
     Left = afterBlock 𝓤 H (afterSeq 𝓤 H (Wp 𝓤 H C Λ En t-4 (atReturn 𝓤 H En Post)) (atReturn 𝓤 H En Post))
 
@@ -267,7 +267,8 @@ module _ {M : Type 1} (𝓤 : URA M) (H : Heap 𝓤) (A : Atoms 𝓤) (W : Given
         split ! $ move ! (1 ∷ []) $
         use1 W (some (λ (zs : Job × (Unit {0} × (Unit {0} × (List ℕ × (Unit {0} × Unit {0}))))). ‵ (lasts slice.ended (κs g l₇ ν μ γ₁ δ) (given-slice g l₇ ν μ γ₁ δ) zs) ⊛ raw (fact 𝓤 (SaidSlice g l₇ ν μ γ₁ δ r (zs .0) (zs .1 .1 .1 .0))))) (id⊢ 𝓤 _) $
         pick ! (λ zs.
-        split ! $ move ! (1 ∷ []) $ heard ! (SaidSlice g l₇ ν μ γ₁ δ r (zs .0) (zs .1 .1 .1 .0)) (λ e. fsplit ! $ move ! (1 ∷ []) $ fsplit ! $ drop ! $ fsplit ! $ drop ! $
+        split ! $ move ! (1 ∷ []) $ heard ! (SaidSlice g l₇ ν μ γ₁ δ r (zs .0) (zs .1 .1 .1 .0)) (λ e. fsplit ! $ move ! (1 ∷ []) $ fsplit ! $ drop ! $ fsplit ! $
+        drop ! $
         fsplit ! $ fsplit ! $ move ! (1 ∷ []) $ feqL ! (λ l.
         move ! (3 ∷ []) $ split ! $ move ! (1 ∷ []) $ facts ! N.the-row (Is N.the-row) (shows 𝓤 H A N.the-row) r (v ∷ []) (λ is.
         -- [the tokens; the output's last list; true; the record's last value; what is read; the lenders' parts; the open borrow; obs; auth; _14; …; _8; …; what frees _7; _6; …]
