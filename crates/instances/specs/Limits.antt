@@ -22,14 +22,14 @@ abbrev pub mostAssoc : ℕ
 mostAssoc = 256
 
 abbrev pub mostText : ℕ
-mostText = 4096
+mostText = 1048576
 
 -- the rounds of the longest verification, and of the longest job
 abbrev pub mostVerify : ℕ
-mostVerify = 8124
+mostVerify = 1574844
 
 abbrev pub mostRounds : ℕ
-mostRounds = 15816
+mostRounds = 3149256
 
 -- the calls of the longest part: no block has fewer than 8 bytes
 abbrev pub mostCalls : ℕ

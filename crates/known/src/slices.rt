@@ -108,7 +108,7 @@ fn step(t: Trial, c: Course) -> Course
     }
 }
 
-// A job taken to its end. 29 slices do 406 rounds, and the largest job has 15,816: 40 times 29 slices are enough.
+// A job taken to its end. 29 slices do 406 rounds, and no text of a known answer needs more than 3,288: 40 times 29 slices are enough.
 fn run(t: Trial) -> Course
     requires { ⌜ (t .«assoc_len» ≤ 32) × (t .«text_len» ≤ 32) ⌝ }
 {

@@ -28,7 +28,7 @@ ghost use Rattle.plan.specs.Planned.{Plans, unplanned};
 // Document 01's limits in bytes, which the definitions have as `mostAssoc` and `mostText`.
 pub const MOST_ASSOC: u32 = 256;
 
-pub const MOST_TEXT: u32 = 4096;
+pub const MOST_TEXT: u32 = 1048576;
 
 // What a job takes: the rounds of a verification, of a sealing, and of an opening with a right tag. Refused with the number of document 01,
 // 1, 4 or 5.

@@ -39,8 +39,8 @@ length-digits zero n = refl
 length-digits (suc k) n = length-append (digits k (n / 10)) ((48 + n % 10) ∷ []) ∙ omega (arith, length-digits k (n / 10))
 
 -- the digits put in a part of a buffer are the number put there
-pub put-part : (at k n : ℕ) (out ys : List ℕ) → k ≡ places n → k ≤ 5 → at + 5 ≤ length out → ys ≡ digits (length (take (at + k - at) (drop at out))) n
-    → Put at (decimal n) 5 out (take at out ++ (ys ++ drop (at + k - at) (drop at out))) (at + k)
+pub put-part : (at k n : ℕ) (out ys : List ℕ) → k ≡ places n → k ≤ 7 → at + 7 ≤ length out → ys ≡ digits (length (take (at + k - at) (drop at out))) n
+    → Put at (decimal n) 7 out (take at out ++ (ys ++ drop (at + k - at) (drop at out))) (at + k)
 unfolding putAt decimal
 put-part at k n out ys e l h d =
     let same : at + k - at ≡ k = omega arith in

@@ -10,10 +10,11 @@ use Rattle.bits.specs.Put.{putAt}
 use Rattle.plan.specs.declared.Planned.{Planned}
 use Rattle.plan.specs.Planned.{planOf}
 
--- ---- numbers below 100,000 in decimal digits, no zero in front
+-- ---- numbers below 10,000,000 in decimal digits, no zero in front
 
 unfoldable pub places : ℕ → ℕ
-places n = pick (ltb n 10) 1 (pick (ltb n 100) 2 (pick (ltb n 1000) 3 (pick (ltb n 10000) 4 5)))
+places n =
+    pick (ltb n 10) 1 (pick (ltb n 100) 2 (pick (ltb n 1000) 3 (pick (ltb n 10000) 4 (pick (ltb n 100000) 5 (pick (ltb n 1000000) 6 7)))))
 
 -- the last k digits of n; the digit d is the character 48 + d
 unfoldable pub digits : ℕ → ℕ → List ℕ

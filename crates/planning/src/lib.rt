@@ -17,7 +17,7 @@ fn answer_one() -> bool {
         io::write_all(STDOUT_FILENO, b"cut short\n");
         return false;
     }
-    let mut line = [0u8; 32];
+    let mut line = [0u8; 40];
     let n = lines::put_line(request, &mut line);
     io::write_all(STDOUT_FILENO, &line[..n])
 }

@@ -6,10 +6,10 @@ use plan::Planned;
 ghost use Rattle.io.specs.Counts.{Counts};
 ghost use Rattle.planning.specs.Lines.{places as Places, digits, decimal, ended, Put, refused, rest, line, pair as Pair, answer};
 
-// How many digits a number below 100,000 has.
+// How many digits a number below 10,000,000 has.
 fn places(n: u32) -> usize
-    requires { ⌜ n < 100000 ⌝ }
-    ensures { λ r. ⌜ (r ≡ Places n) × (r ≤ 5) ⌝ }
+    requires { ⌜ n < 10000000 ⌝ }
+    ensures { λ r. ⌜ (r ≡ Places n) × (r ≤ 7) ⌝ }
 {
     if n < 10 {
         return 1;
@@ -23,7 +23,13 @@ fn places(n: u32) -> usize
     if n < 10000 {
         return 4;
     }
-    5
+    if n < 100000 {
+        return 5;
+    }
+    if n < 1000000 {
+        return 6;
+    }
+    7
 }
 
 fn digit(n: u32) -> u8
@@ -47,8 +53,8 @@ fn spell(s: &mut [u8], n: u32)
 
 // A number put at a place, and the place behind it.
 fn put_number(out: &mut [u8], at: usize, n: u32) -> usize
-    requires { ⌜ (n < 100000) × (at + 5 ≤ length (now out)) ⌝ }
-    ensures { λ r. ⌜ Put at (decimal n) 5 (now (out .entry)) (now (out .exit)) r ⌝ }
+    requires { ⌜ (n < 10000000) × (at + 7 ≤ length (now out)) ⌝ }
+    ensures { λ r. ⌜ Put at (decimal n) 7 (now (out .entry)) (now (out .exit)) r ⌝ }
 {
     let end = at + places(n);
     spell(&mut out[at..end], n);
@@ -57,8 +63,8 @@ fn put_number(out: &mut [u8], at: usize, n: u32) -> usize
 
 // A number and one character more.
 fn put_ended(out: &mut [u8], at: usize, n: u32, by: u8) -> usize
-    requires { ⌜ (n < 100000) × (at + 6 ≤ length (now out)) ⌝ }
-    ensures { λ r. ⌜ Put at (ended n by) 6 (now (out .entry)) (now (out .exit)) r ⌝ }
+    requires { ⌜ (n < 10000000) × (at + 8 ≤ length (now out)) ⌝ }
+    ensures { λ r. ⌜ Put at (ended n by) 8 (now (out .entry)) (now (out .exit)) r ⌝ }
 {
     let end = put_number(out, at, n);
     out[end] = by;
@@ -82,8 +88,8 @@ fn put_refused(out: &mut [u8], at: usize) -> usize
 
 // The rounds, or the refusal.
 fn put_rest(out: &mut [u8], at: usize, r: Planned) -> usize
-    requires { ⌜ (r .number < 100000) × (r .verify < 100000) × (r .total < 100000) × (at + 14 ≤ length (now out)) ⌝ }
-    ensures { λ n. ⌜ Put at (rest r) 14 (now (out .entry)) (now (out .exit)) n ⌝ }
+    requires { ⌜ (r .number < 10000000) × (r .verify < 10000000) × (r .total < 10000000) × (at + 16 ≤ length (now out)) ⌝ }
+    ensures { λ n. ⌜ Put at (rest r) 16 (now (out .entry)) (now (out .exit)) n ⌝ }
 {
     let number = r.number;
     if number == 0 {
@@ -96,8 +102,8 @@ fn put_rest(out: &mut [u8], at: usize, r: Planned) -> usize
 
 // The line for an instance and two lengths.
 fn put_plan(out: &mut [u8], i: u32, a: u32, m: u32) -> usize
-    requires { ⌜ (i < 100000) × (a < 100000) × (m < 100000) × (32 ≤ length (now out)) ⌝ }
-    ensures { λ r. ⌜ Put 0 (line i a m) 32 (now (out .entry)) (now (out .exit)) r ⌝ }
+    requires { ⌜ (i < 10000000) × (a < 10000000) × (m < 10000000) × (40 ≤ length (now out)) ⌝ }
+    ensures { λ r. ⌜ Put 0 (line i a m) 40 (now (out .entry)) (now (out .exit)) r ⌝ }
 {
     let second = put_ended(out, 0, i, b' ');
     let third = put_ended(out, second, a, b' ');
@@ -118,7 +124,7 @@ fn wide(b: u8) -> u32
 }
 
 // The line for a request's five bytes, at the start of a buffer, and its length.
-pub fn put_line(request: [u8; 5], out: &mut [u8; 32]) -> usize
+pub fn put_line(request: [u8; 5], out: &mut [u8; 40]) -> usize
     ensures { λ r. ⌜ Counts r (now (out .exit)) ⌝ }
     ensures { λ r. ⌜ take r (now (out .exit)) ≡ answer request ⌝ }
 {

@@ -148,11 +148,15 @@ module _ (p : Cipher) (x : Input) where
         decides = subst (λ (n : ℕ). 0 < n) (sym front-rounds) (verify-some (length (x .assoc)) (length (x .text)));
       }
 
--- 24 + 12 (1 + u + v) at the two ends of the range, and an opening's total
+-- 24 + 12 (1 + u + v) and an opening's total: with neither data nor text, with a parcel's longest text, and at both limits
 pub none : (verifyRounds 0 0 ≡ 36) × (secondRounds 0 0 ≡ 0)
 unfolding verifyRounds secondRounds unlessEmpty blocks
 none = (refl, refl)
 
-pub most : (verifyRounds 256 4096 ≡ 1668) × (verifyRounds 256 4096 + secondRounds 256 4096 ≡ 3312)
+pub carried : (verifyRounds 256 4096 ≡ 1668) × (verifyRounds 256 4096 + secondRounds 256 4096 ≡ 3312)
+unfolding verifyRounds secondRounds unlessEmpty blocks
+carried = (refl, refl)
+
+pub most : (verifyRounds 256 1048576 ≡ 393348) × (verifyRounds 256 1048576 + secondRounds 256 1048576 ≡ 786672)
 unfolding verifyRounds secondRounds unlessEmpty blocks
 most = (refl, refl)

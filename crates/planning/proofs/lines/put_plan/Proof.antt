@@ -16,9 +16,9 @@ put-rest-requires c κs =
     let s = c .before .before .before .before .before .before .before .before .before .before .before .before .before .before .before in
     let w = plan-within (s .args .i) (s .args .a) (s .args .m) in
     let e = c .plan .ensures in
-    let n : c .plan .result .number < 100000 = omega (arith, ap Planned.number e, w .number) in
-    let v : c .plan .result .verify < 100000 = omega (arith, ap Planned.verify e, w .verify) in
-    let t : c .plan .result .total < 100000 = omega (arith, ap Planned.total e, w .total) in
+    let n : c .plan .result .number < 10000000 = omega (arith, ap Planned.number e, w .number) in
+    let v : c .plan .result .verify < 10000000 = omega (arith, ap Planned.verify e, w .verify) in
+    let t : c .plan .result .total < 10000000 = omega (arith, ap Planned.total e, w .total) in
     (n, v, t, search needs)
 
 returns : tie.Need-returns
@@ -30,7 +30,7 @@ returns c =
     let second = third .before .before .before .before in
     let first = second .before .before .before .before in
     let s = first .before .before .before in
-    let tail = put-then (third .put-ended3 .ensures) (put-as {k = 14} (ap rest (p .plan .ensures)) (last .put-rest .ensures) (omega arith)) (search needs) in
+    let tail = put-then (third .put-ended3 .ensures) (put-as {k = 16} (ap rest (p .plan .ensures)) (last .put-rest .ensures) (omega arith)) (search needs) in
     put-then (first .put-ended .ensures) (put-then (second .put-ended2 .ensures) tail (search needs)) (search needs)
 
 pub put-plan-spec : {M : Type 1} → statement M
