@@ -2,6 +2,7 @@
 // are compared here, one buffer with another; the file stdout holds the documents' numbers.
 mod heartbeats;
 
+ghost use Prim.Native.Nat.{_≤_};
 use heartbeats::heartbeat;
 use isap::Job;
 use libc::STDOUT_FILENO;
@@ -169,7 +170,7 @@ fn say_lengths(words: &[u8], a: u64, m: u64) {
     say_number(b", m = ", m);
 }
 
-fn refused_beginning(a: u32, m: u32) {
+fn beginning(a: u32, m: u32) {
     let k = key();
     let n = nonce();
     let begun = isap::begin_seal(1, &k, &n, a, m);
@@ -178,7 +179,7 @@ fn refused_beginning(a: u32, m: u32) {
     say(b"\n");
 }
 
-fn refused_whole(assoc: &[u8], input: &[u8], out: &mut [u8]) {
+fn whole(assoc: &[u8], input: &[u8], out: &mut [u8]) {
     let k = key();
     let n = nonce();
     let mut tag = [0u8; 16];
@@ -188,18 +189,34 @@ fn refused_whole(assoc: &[u8], input: &[u8], out: &mut [u8]) {
     say(b"\n");
 }
 
-fn refusals() {
-    refused_beginning(257, 8);
-    refused_beginning(0, 4097);
-    refused_beginning(257, 4097);
+fn beginnings_at_the_limits() {
+    beginning(257, 8);
+    beginning(0, 1048577);
+    beginning(257, 1048577);
+    beginning(256, 1048576);
+}
+
+// A byte more than the longest text. A function of its own: an array written out where it is used is one that the prover unfolds.
+fn too_long() -> [u8; 1048577] {
+    [0u8; 1048577]
+}
+
+fn whole_image(bytes: usize)
+    requires { ⌜ bytes ≤ 1048577 ⌝ }
+{
+    let image = too_long();
+    let mut out = too_long();
+    whole(b"", &image[0..bytes], &mut out[0..bytes]);
+}
+
+fn whole_calls_with_too_much_data() {
     let assoc = [0u8; 257];
     let short = [0u8; 8];
-    let long = [0u8; 4097];
     let mut short_out = [0u8; 8];
-    let mut long_out = [0u8; 4097];
-    refused_whole(&assoc, &short, &mut short_out);
-    refused_whole(b"", &long, &mut long_out);
-    refused_whole(&assoc, &long, &mut long_out);
+    whole(&assoc, &short, &mut short_out);
+    let long = too_long();
+    let mut long_out = too_long();
+    whole(&assoc, &long, &mut long_out);
 }
 
 fn seal_whole() -> Sealed {
@@ -290,7 +307,11 @@ fn once(words: &[u8], job: Job, budget: u32) {
 }
 
 fn main() {
-    refusals();
+    beginnings_at_the_limits();
+    whole_calls_with_too_much_data();
+    whole_image(1048575);
+    whole_image(1048576);
+    whole_image(1048577);
     let s = seal_whole();
     seal_sliced(s, 1);
     seal_sliced(s, 7);

@@ -1,4 +1,4 @@
-// Whole calls with what stands at the start of a room's buffers.
+// Whole calls with what stands at the start of a room's buffers, and of a text and an output beside them.
 use crate::room::Room;
 use case_file::strings::first;
 use case_file::strings::within;
@@ -15,15 +15,14 @@ pub struct Lent {
     pub tag: u32,
 }
 
-pub fn seal(lent: Lent, room: Room, out: &mut [u8], tag: &mut [u8]) -> Said {
+pub fn seal(lent: Lent, room: Room, text: &[u8], out: &mut [u8], tag: &mut [u8]) -> Said {
     let key = room.key;
     let nonce = room.nonce;
     let assoc = room.assoc;
-    let text = room.text;
     let k = first(&key, lent.key);
     let c = first(&nonce, lent.nonce);
     let a = first(&assoc, lent.assoc);
-    let m = first(&text, lent.text);
+    let m = first(text, lent.text);
     let n = within(&out[..], lent.out);
     let t = within(&tag[..], lent.tag);
     let answer = isap::seal(lent.instance, k, c, a, m, &mut out[..n], &mut tag[..t]);
@@ -33,15 +32,14 @@ pub fn seal(lent: Lent, room: Room, out: &mut [u8], tag: &mut [u8]) -> Said {
     }
 }
 
-pub fn open(lent: Lent, room: Room, out: &mut [u8], tag: &[u8]) -> Said {
+pub fn open(lent: Lent, room: Room, text: &[u8], out: &mut [u8], tag: &[u8]) -> Said {
     let key = room.key;
     let nonce = room.nonce;
     let assoc = room.assoc;
-    let text = room.text;
     let k = first(&key, lent.key);
     let c = first(&nonce, lent.nonce);
     let a = first(&assoc, lent.assoc);
-    let m = first(&text, lent.text);
+    let m = first(text, lent.text);
     let t = first(tag, lent.tag);
     let n = within(&out[..], lent.out);
     let answer = isap::open(lent.instance, k, c, a, m, t, &mut out[..n]);

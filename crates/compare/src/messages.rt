@@ -84,8 +84,9 @@ fn sealed(m: Message, out: &mut [u8], rounds: u32) -> Verdict {
     let lent = m.lent;
     let room = m.room;
     let tag = m.tag;
+    let text = room.text;
     let mut made = [170u8; 16];
-    let said = calls::seal(lent, room, out, &mut made);
+    let said = calls::seal(lent, room, &text, out, &mut made);
     let expected = Said { number: 0, rounds };
     let answered = verdict::then_said(verdict::no_difference(), said, expected, 1);
     let tagged = verdict::then(answered, same(&made, &tag), TAG, 1);
@@ -105,8 +106,9 @@ fn opened(before: Verdict, m: Message, text: [u8; 4200], rounds: u32) -> Verdict
     let lent = m.lent;
     let room = m.room;
     let tag = m.tag;
+    let cipher = room.text;
     let mut out = room.out;
-    let said = calls::open(lent, room, &mut out, &tag);
+    let said = calls::open(lent, room, &cipher, &mut out, &tag);
     let expected = Said { number: 0, rounds };
     let answered = verdict::then_said(before, said, expected, 2);
     verdict::then(
@@ -179,9 +181,10 @@ fn opened_damaged(before: Verdict, m: Message, rounds: u32) -> Verdict {
     let lent = m.lent;
     let room = m.room;
     let tag = m.tag;
+    let cipher = room.text;
     let kept = room.out;
     let mut out = room.out;
-    let said = calls::open(lent, room, &mut out, &tag);
+    let said = calls::open(lent, room, &cipher, &mut out, &tag);
     let expected = Said { number: 8, rounds };
     let answered = verdict::then_said(before, said, expected, 3);
     verdict::then(answered, same(&out, &kept), OUTPUT, 3)

@@ -1,9 +1,12 @@
-// Whole calls that are refused: the number, no rounds, and neither output nor tag touched.
+// Whole calls that are refused: the number, no rounds, and neither output nor tag touched. They are lent parts of two long
+// arrays: a text may have up to 128 bytes more than the library takes. Both hold the same bytes before a call, so the text tells afterwards
+// whether the output was touched.
 use crate::calls;
 use crate::calls::Lent;
 use crate::room::Room;
 use crate::room::filled;
 use case_file::reading;
+use case_file::strings::first;
 use case_file::strings::same;
 use case_file::verdict;
 use case_file::verdict::OUTPUT;
@@ -15,8 +18,8 @@ fn read_lent(instance: u32) -> Lent {
     let key = reading::byte();
     let nonce = reading::byte();
     let assoc = reading::pair();
-    let text = reading::pair();
-    let out = reading::pair();
+    let text = reading::four();
+    let out = reading::four();
     let tag = reading::byte();
     Lent {
         instance,
@@ -29,26 +32,60 @@ fn read_lent(instance: u32) -> Lent {
     }
 }
 
-fn call(direction: u32, lent: Lent, room: Room, out: &mut [u8], tag: &mut [u8]) -> Said {
-    if direction == 1 {
-        return calls::seal(lent, room, out, tag);
-    }
-    calls::open(lent, room, out, &tag[..])
+// A function of its own: an array written out where it is used is one that the prover unfolds.
+fn long() -> [u8; 1048704] {
+    [170u8; 1048704]
 }
 
-pub fn case() -> Verdict {
+struct Trial {
+    direction: u32,
+    lent: Lent,
+    room: Room,
+    number: u32,
+}
+
+fn call(c: Trial, text: &[u8], out: &mut [u8], tag: &mut [u8]) -> Said {
+    if c.direction == 1 {
+        return calls::seal(c.lent, c.room, text, out, tag);
+    }
+    calls::open(c.lent, c.room, text, out, &tag[..])
+}
+
+fn read_trial() -> Trial {
     let direction = reading::byte();
     let instance = reading::four();
     let room = filled(reading::eight());
     let lent = read_lent(instance);
     let number = reading::byte();
-    let before = room.out;
-    let mut out = room.out;
+    Trial {
+        direction,
+        lent,
+        room,
+        number,
+    }
+}
+
+fn refused(c: Trial, text: &[u8], out: &mut [u8]) -> Verdict {
     let tag_before = [170u8; 32];
     let mut tag = [170u8; 32];
-    let said = call(direction, lent, room, &mut out, &mut tag);
-    let expected = Said { number, rounds: 0 };
+    let said = call(c, text, out, &mut tag);
+    let expected = Said {
+        number: c.number,
+        rounds: 0,
+    };
+    let lent = c.lent;
     let answered = verdict::then_said(verdict::no_difference(), said, expected, 1);
-    let kept = verdict::then(answered, same(&out, &before), OUTPUT, 1);
+    let kept = verdict::then(
+        answered,
+        same(first(&out[..], lent.out), first(text, lent.out)),
+        OUTPUT,
+        1,
+    );
     verdict::then(kept, same(&tag, &tag_before), TAG, 1)
+}
+
+pub fn case() -> Verdict {
+    let text = long();
+    let mut out = long();
+    refused(read_trial(), &text, &mut out)
 }

@@ -54,7 +54,7 @@ fn seal_whole(
     tag
 }
 
-// No job has more rounds, so a budget of one round needs no more slices.
+// No text of 4,096 bytes needs more rounds, so a budget of one round needs no more slices.
 const MOST_SLICES: u32 = 15816;
 
 fn seal_in_slices(

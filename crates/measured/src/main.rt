@@ -24,7 +24,7 @@ fn say_line(r: Request, sum: u64) {
     io::write_all(STDOUT_FILENO, b"\n");
 }
 
-// Does one request, and says whether to go on: not where the input has ended or asks for more than the library takes.
+// Does one request, and says whether to go on: not where the input has ended or asks for more than there is room for.
 fn answer_one() -> bool {
     let mut bytes = [0u8; 14];
     let got = io::read_full(STDIN_FILENO, &mut bytes);

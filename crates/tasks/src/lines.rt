@@ -14,17 +14,26 @@ fn say_number(n: u32) {
     say(b" ");
 }
 
-fn say_case(job: &[u8], m: Message, run: Run) {
-    say_number(m.instance);
-    say(job);
-    say(b" ");
-    say_number(m.assoc);
-    say_number(m.text);
-    say_number(run.budget);
-    say_number(run.turns);
+// What a line says before a run's answers.
+pub struct Case {
+    pub instance: u32,
+    pub assoc: u32,
+    pub text: u32,
+    pub budget: u32,
+    pub turns: u32,
 }
 
-fn say_kept(kept: Kept) {
+pub fn say_case(job: &[u8], c: Case) {
+    say_number(c.instance);
+    say(job);
+    say(b" ");
+    say_number(c.assoc);
+    say_number(c.text);
+    say_number(c.budget);
+    say_number(c.turns);
+}
+
+pub fn say_kept(kept: Kept) {
     let turns = kept.turns;
     let job = kept.job;
     say_number(turns.number);
@@ -56,7 +65,14 @@ pub fn said(job: &[u8], m: Message, run: Run) -> Left {
     let left = runs::done(m, run);
     let kept = left.kept;
     let out = left.out;
-    say_case(job, m, run);
+    let case = Case {
+        instance: m.instance,
+        assoc: m.assoc,
+        text: m.text,
+        budget: run.budget,
+        turns: run.turns,
+    };
+    say_case(job, case);
     say_kept(kept);
     say_bytes(first(&out, run.out));
     say(b"\n");

@@ -1,6 +1,7 @@
 // Runs the host task on jobs of every instance and prints a line for each run: the case, the number of the last slice, how often the
-// sampler was served, the most rounds that it waited, the rounds done, the record's checksum, and the output. The second program
-// (tests/second/src/tasks.rs) says what the lines must be.
+// sampler was served, the most rounds that it waited, the rounds done, the record's checksum, and the output, of an image its checksum. The
+// second program (tests/second/src/tasks.rs) says what the lines must be.
+mod images;
 mod lines;
 mod messages;
 mod records;
@@ -15,7 +16,7 @@ use runs::Left;
 use runs::Run;
 use runs::done;
 
-// More turns than a job has rounds.
+// More turns than a job of these messages has rounds.
 const ENOUGH: u32 = 20000;
 
 fn sealing(m: Message) -> Job {
@@ -147,6 +148,7 @@ fn of_instance(instance: u32) {
     by_every_budget(filled(instance, 3, 20, 41));
     by_every_budget(filled(instance, 4, 256, 100));
     short_of_the_end(filled(instance, 3, 20, 41));
+    images::of_instance(instance);
 }
 
 fn main() {

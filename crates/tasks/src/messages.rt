@@ -18,7 +18,7 @@ pub struct Message {
 }
 
 // Small enough that one more is a seed too.
-fn seed(instance: u32, index: u32) -> u64
+pub fn seed(instance: u32, index: u32) -> u64
     ensures { λ r. ⌜ r < 5000000000000 ⌝ }
 {
     (instance as u64) * 1000 + (index as u64) * 10

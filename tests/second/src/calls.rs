@@ -11,6 +11,10 @@ pub const HAS_ENDED: u32 = 10;
 pub const OTHER_LENGTH: u32 = 11;
 pub const NOT_ENDED: u32 = 100;
 
+/// The longest associated data and the longest text of whole calls and jobs (document 02, request (vi)).
+pub const MOST_ASSOC: usize = 256;
+pub const MOST_TEXT: usize = 1_048_576;
+
 /// The lengths of what is lent to a whole call or a beginning; `out` is none for a beginning, `tag` none where it takes no tag.
 #[derive(Clone, Copy)]
 pub struct Lengths {
@@ -28,8 +32,8 @@ pub fn refusal(instance: u32, l: &Lengths) -> Option<u32> {
         !ALL.contains(&instance),
         l.key != 16,
         l.nonce != 16,
-        l.assoc > 256,
-        l.text > 4096,
+        l.assoc > MOST_ASSOC,
+        l.text > MOST_TEXT,
         l.out.unwrap_or(l.text) != l.text,
         l.tag.unwrap_or(16) != 16,
     ];

@@ -7,6 +7,7 @@ mod calls;
 mod cases;
 mod checks;
 mod filling;
+mod images;
 mod instances;
 mod keccak;
 mod known;
@@ -28,8 +29,8 @@ mod written;
 
 use std::io::Write;
 
-const USAGE: &str = "usage: second permutations states|answers, plan rows|many requests|lines, cases file|summary, \
-    parcels cases file|summary, tasks, tables, answers, checks, known FOLDER, sealed FILE, or parcels FILE";
+const USAGE: &str = "usage: second permutations states|answers, plan rows|many|lengths requests|lines, cases file|summary, \
+    parcels cases file|summary, tasks, tables, answers, checks, known FOLDER, sealed FILE, parcels FILE, image, or images FOLDER";
 
 /// A report; where it tells a failure it goes to the error output and the program fails.
 fn passed((report, failed): (String, bool)) -> String {
@@ -50,6 +51,8 @@ fn main() {
         ["plan", "rows", "lines"] => plan::rows_lines().into_bytes(),
         ["plan", "many", "requests"] => plan::many_requests(),
         ["plan", "many", "lines"] => plan::many_lines().into_bytes(),
+        ["plan", "lengths", "requests"] => plan::lengths_requests(),
+        ["plan", "lengths", "lines"] => plan::lengths_lines().into_bytes(),
         ["cases", "file"] => cases::file(),
         ["cases", "summary"] => cases::summary().into_bytes(),
         ["known", folder] => passed(known::report(folder)).into_bytes(),
@@ -61,6 +64,8 @@ fn main() {
         ["tables"] => tables::file().into_bytes(),
         ["sealed", file] => passed(lines::report(file, "sealed", sealed::agrees)).into_bytes(),
         ["parcels", file] => passed(lines::report(file, "parcels", parcels::agrees)).into_bytes(),
+        ["image"] => images::image(),
+        ["images", folder] => passed(images::report(folder)).into_bytes(),
         _ => {
             eprintln!("{USAGE}");
             std::process::exit(2);

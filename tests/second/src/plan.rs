@@ -1,5 +1,6 @@
 //! The planning program's requests and lines. Rounds are counted call by call along the algorithms, not by the formulas.
 
+use crate::calls::{MOST_ASSOC, MOST_TEXT};
 use crate::instances::{instance, Instance, ALL};
 use crate::numbers::Numbers;
 use crate::record::SEALING;
@@ -24,8 +25,6 @@ impl Rounds {
 }
 
 const HEADING: &str = "instance assoc text verify total\n";
-const MOST_ASSOC: usize = 256;
-const MOST_TEXT: usize = 4096;
 
 /// The rounds of the calls of a re-keying: pK, then pB after each bit but the last, pK after that.
 fn rekeying(i: &Instance) -> usize {
@@ -104,8 +103,9 @@ fn line(request: Request) -> String {
     format!("{number} {a} {m} {answer}\n")
 }
 
-/// The ten cases of document 01, each refusal, alone and before a later one, some more, and Spook around its blocks.
-const ROWS: [Request; 37] = [
+/// The ten cases of document 01, each refusal, alone and before a later one, some more, Spook around its blocks, and the longest texts
+/// that a request can have.
+const ROWS: [Request; 44] = [
     (1, 0, 0),
     (1, 0, 7),
     (1, 1, 8),
@@ -143,12 +143,22 @@ const ROWS: [Request; 37] = [
     (5, 257, 0),
     (5, 0, 4097),
     (5, 257, 4097),
+    (1, 0, 65535),
+    (2, 0, 65535),
+    (2, 256, 65535),
+    (3, 0, 65534),
+    (3, 256, 65535),
+    (4, 256, 65535),
+    (5, 256, 65535),
 ];
 
 /// After the rows, a request of which one byte is missing.
 const CUT: [u8; 4] = [2, 0, 0, 0];
 
-/// Lengths near multiples of each block length, at the limits and beyond them, and any.
+/// The longest text that a request's two bytes can say; every text length is planned.
+const LONGEST: u16 = u16::MAX;
+
+/// Lengths near multiples of each block length, at the largest and beyond it, and any.
 fn many() -> Vec<Request> {
     let mut numbers = Numbers::new(16);
     let mut length = |most: u64| -> u16 {
@@ -162,7 +172,7 @@ fn many() -> Vec<Request> {
         };
         edge.saturating_sub(1).min(65535) as u16
     };
-    let lengths: Vec<(u16, u16)> = (0..10_000).map(|_| (length(256), length(4096))).collect();
+    let lengths: Vec<(u16, u16)> = (0..10_000).map(|_| (length(MOST_ASSOC as u64), length(LONGEST as u64))).collect();
     let mut numbers = Numbers::new(17);
     lengths.into_iter().map(|(a, m)| ((numbers.next() % 7) as u8, a, m)).collect()
 }
@@ -181,6 +191,11 @@ fn lines(requests: &[Request]) -> String {
     requests.iter().fold(HEADING.to_string(), |text, request| text + &line(*request))
 }
 
+/// Every text length in every instance, with the longest associated data.
+fn lengths() -> Vec<Request> {
+    ALL.iter().flat_map(|number| (0..=LONGEST).map(move |m| (*number as u8, MOST_ASSOC as u16, m))).collect()
+}
+
 pub fn rows_requests() -> Vec<u8> {
     let mut all = bytes(&ROWS);
     all.extend(CUT);
@@ -197,4 +212,12 @@ pub fn many_requests() -> Vec<u8> {
 
 pub fn many_lines() -> String {
     lines(&many())
+}
+
+pub fn lengths_requests() -> Vec<u8> {
+    bytes(&lengths())
+}
+
+pub fn lengths_lines() -> String {
+    lines(&lengths())
 }

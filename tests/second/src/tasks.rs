@@ -1,6 +1,8 @@
 //! The lines of the program `tasks`: a host task that keeps the record of one job and in each turn gives it one slice. A line has the case,
 //! the last slice's number, the turns that there were, the most rounds of one of them, the rounds of the record afterwards, the checksum of
-//! that record and the output afterwards. What went to its end is compared with the paper's algorithm.
+//! that record and the output afterwards, of an image its checksum. What went to its end is compared with the paper's algorithm.
+
+mod images;
 
 use crate::calls::{begun, slice, NOT_ENDED};
 use crate::filling::{checksum, filled};
@@ -15,7 +17,7 @@ const MESSAGES: [(usize, usize); 4] = [(0, 0), (1, 8), (20, 41), (256, 100)];
 /// The message of the runs that do not go to an end.
 const STOPPED: usize = 2;
 const BUDGETS: [u32; 3] = [1, 25, 1000];
-/// More turns than a job has rounds.
+/// More turns than a job of these messages has rounds.
 const ENOUGH: u32 = 20_000;
 /// For each instance turns of one round, after which some of the output's blocks are written and some are not.
 const AMID_THE_TEXT: [u32; 5] = [163, 1572, 159, 1572, 40];
@@ -30,12 +32,17 @@ fn sixteen(bytes: Vec<u8>) -> [u8; 16] {
     bytes.try_into().expect("sixteen bytes")
 }
 
-fn message(instance: u32, index: usize) -> Message {
-    let (a, m) = MESSAGES[index];
-    let seed = 1000 * instance as u64 + 10 * (index as u64 + 1);
+/// A message of these lengths, its index counted from 1.
+fn filling_of(instance: u32, index: u64, a: usize, m: usize) -> Message {
+    let seed = 1000 * instance as u64 + 10 * index;
     let [key, nonce, assoc, text] = filled(seed, [16, 16, a, m]);
     let [before] = filled(seed + 1, [m]);
     Message { given: Given { instance, key: sixteen(key), nonce: sixteen(nonce), assoc, text }, before }
+}
+
+fn message(instance: u32, index: usize) -> Message {
+    let (a, m) = MESSAGES[index];
+    filling_of(instance, index as u64 + 1, a, m)
 }
 
 fn beginning(given: &Given, direction: u32, tag: [u8; 16]) -> Record {
@@ -78,11 +85,14 @@ fn hex(bytes: &[u8]) -> String {
     bytes.iter().map(|byte| format!("{byte:02x}")).collect()
 }
 
+fn case(job: &str, given: &Given, allowed: Allowed) -> String {
+    format!("{} {job} {} {} {} {}", given.instance, given.assoc.len(), given.text.len(), allowed.budget, allowed.turns)
+}
+
 fn line(job: &str, given: &Given, allowed: Allowed, ran: &Ran) -> String {
-    let case = format!("{} {job} {} {} {} {}", given.instance, given.assoc.len(), given.text.len(), allowed.budget, allowed.turns);
     let record = &ran.left.record;
     let numbers = format!("{} {} {} {}", ran.number, ran.served, ran.waited, record.done);
-    format!("{case} {numbers} {:016x} {}\n", checksum(&record.bytes()), hex(&ran.left.out))
+    format!("{} {numbers} {:016x} {}\n", case(job, given, allowed), checksum(&record.bytes()), hex(&ran.left.out))
 }
 
 /// A job from its beginning to its end, where it is what the paper's algorithm gives.
@@ -148,7 +158,7 @@ fn idle_lines(message: &Message) -> String {
 fn of_instance(number: u32) -> String {
     let messages: Vec<Message> = (0..MESSAGES.len()).map(|index| message(number, index)).collect();
     let ended: String = messages.iter().flat_map(|message| BUDGETS.map(|budget| ended_lines(message, budget))).collect();
-    ended + &unended_lines(&messages[STOPPED]) + &idle_lines(&messages[STOPPED])
+    ended + &unended_lines(&messages[STOPPED]) + &idle_lines(&messages[STOPPED]) + &images::of_instance(number)
 }
 
 pub fn lines() -> String {

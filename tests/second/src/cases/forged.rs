@@ -4,7 +4,7 @@
 use super::room::Room;
 use super::slices::{own_lengths, Cut, Sliced};
 use super::{one_of, up_to, Kind, Written};
-use crate::calls::{slice, CANNOT_STAND, HAS_ENDED, NOT_ENDED, OTHER_LENGTH};
+use crate::calls::{slice, CANNOT_STAND, HAS_ENDED, MOST_TEXT, NOT_ENDED, OTHER_LENGTH};
 use crate::instances::{block, ISAP_END};
 use crate::numbers::Numbers;
 use crate::paper::{accepted_tag, closing};
@@ -162,7 +162,7 @@ const DAMAGES: [Damage; 36] = [
     |r| r.direction = u32::MAX,
     |r| r.assoc = 257,
     |r| r.assoc = u32::MAX,
-    |r| r.text = 4097,
+    |r| r.text = MOST_TEXT as u32 + 1,
     |r| r.text = u32::MAX,
     |r| r.done += 1,
     |r| r.done = r.done.wrapping_sub(1),

@@ -6,6 +6,7 @@
 
 use super::room::Room;
 use super::{one_of, up_to, Kind, Written};
+use crate::calls::MOST_ASSOC;
 use crate::filling::checksum;
 use crate::instances::{block, ALL};
 use crate::numbers::Numbers;
@@ -13,8 +14,8 @@ use crate::paper::{ended, Given};
 use crate::record::{OPENING, SEALING, WELL, WRONG_TAG};
 use crate::spook::SPOOK;
 
-const MOST_ASSOC: usize = 256;
-const MOST_TEXT: usize = 4096;
+/// The longest text of a message here; `compare` has room for a little more.
+const LONGEST: usize = 4096;
 const SHOWN_WHOLE: usize = 256;
 
 /// One bit of the key, of the nonce, of the associated data, of the ciphertext, of the tag; another instance; a shorter ciphertext.
@@ -73,7 +74,7 @@ fn damage(numbers: &mut Numbers, number: u32, assoc: usize, text: usize) -> Dama
 /// Every text up to 256 bytes and every longer one near a block's multiple; associated data in turn near a multiple and of any length.
 fn lengths(numbers: &mut Numbers, number: u32) -> Vec<(usize, usize)> {
     let edges: Vec<usize> = (0..=MOST_ASSOC).filter(|length| near_a_block(number, *length, MOST_ASSOC)).collect();
-    let texts = (0..=MOST_TEXT).filter(|text| *text <= SHOWN_WHOLE || near_a_block(number, *text, MOST_TEXT));
+    let texts = (0..=LONGEST).filter(|text| *text <= SHOWN_WHOLE || near_a_block(number, *text, LONGEST));
     let chosen = texts.enumerate().map(|(i, text)| {
         let assoc = if i % 2 == 0 { edges[i / 2 % edges.len()] } else { up_to(numbers, MOST_ASSOC) };
         (assoc, text)
@@ -85,7 +86,7 @@ fn lengths(numbers: &mut Numbers, number: u32) -> Vec<(usize, usize)> {
 fn spook_lengths() -> Vec<(usize, usize)> {
     const SHORT: [usize; 11] = [0, 1, 15, 16, 17, 31, 32, 33, 63, 64, 65];
     let assocs = SHORT.into_iter().chain([MOST_ASSOC]);
-    assocs.flat_map(|assoc| SHORT.into_iter().chain([256, MOST_TEXT]).map(move |text| (assoc, text))).collect()
+    assocs.flat_map(|assoc| SHORT.into_iter().chain([256, LONGEST]).map(move |text| (assoc, text))).collect()
 }
 
 pub fn planned(number: u32) -> Vec<Message> {

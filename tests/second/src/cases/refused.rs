@@ -1,17 +1,20 @@
 //! Whole calls and beginnings that are refused: each length wrong alone, each two of them, and any number at once.
 //!
-//! A whole call: direction (1 byte), instance (4), seed (8), lengths of key and nonce (1 each), associated data, text and output (2
-//! each) and tag (1), the number (1). A beginning: direction (1), instance (4), seed (8), lengths of key, nonce and tag (1 each), the
-//! two lengths as numbers (4 each), the tag (16), the number (1) and the record (212). The tag that is lent has zeros behind these 16.
+//! A whole call: direction (1 byte), instance (4), seed (8), lengths of key and nonce (1 each), associated data (2), text and output (4
+//! each) and tag (1), the number (1). A beginning: direction (1), instance (4), seed (8), lengths of key, nonce and tag (1 each), the two
+//! lengths as numbers (4 each), the tag (16), the number (1) and the record (212). The tag that is lent has zeros behind these 16.
 
 use super::{one_of, up_to, Kind, Written};
-use crate::calls::{refusal, Lengths};
+use crate::calls::{refusal, Lengths, MOST_ASSOC, MOST_TEXT};
 use crate::instances::ALL;
 use crate::numbers::Numbers;
 use crate::record::{Record, OPENING, SEALING};
 
 const FIELDS: usize = 7;
 const ANY_AT_ONCE: usize = 40;
+/// Bytes that `compare` has of associated data, and of text and output for a refusal.
+const ASSOC_ROOM: usize = 512;
+const TEXT_ROOM: usize = MOST_TEXT + 128;
 
 #[derive(Clone, Copy)]
 struct Trial {
@@ -34,12 +37,12 @@ fn spoil(numbers: &mut Numbers, trial: &mut Trial, field: usize, far: &[usize]) 
         0 => trial.instance = one_of(numbers, &[0, 6, 255, 256, u32::MAX]),
         1 => l.key = not_sixteen,
         2 => l.nonce = not_sixteen,
-        3 => l.assoc = one_of(numbers, &beyond(257, 512)),
+        3 => l.assoc = one_of(numbers, &beyond(MOST_ASSOC + 1, ASSOC_ROOM)),
         4 => {
-            l.text = one_of(numbers, &beyond(4097, 4200));
+            l.text = one_of(numbers, &beyond(MOST_TEXT + 1, TEXT_ROOM));
             l.out = Some(l.text);
         }
-        5 => l.out = Some(one_of(numbers, &[l.text.saturating_sub(1), (l.text + 1).min(4200), 4200, 0])),
+        5 => l.out = Some(one_of(numbers, &[l.text.saturating_sub(1), (l.text + 1).min(TEXT_ROOM), TEXT_ROOM, 0])),
         _ => l.tag = Some(not_sixteen),
     }
 }
@@ -80,8 +83,8 @@ fn write_whole(file: &mut Written, direction: u32, seed: u64, trial: &Trial, num
     file.byte(l.key as u32);
     file.byte(l.nonce as u32);
     file.pair(l.assoc);
-    file.pair(l.text);
-    file.pair(l.out.expect("a whole call has an output"));
+    file.four(l.text as u32);
+    file.four(l.out.expect("a whole call has an output") as u32);
     file.byte(l.tag.expect("a whole call has a tag") as u32);
     file.byte(number);
 }
@@ -127,7 +130,7 @@ pub fn beginnings() -> Written {
     let mut numbers = Numbers::new(210);
     let record = Record::zeros();
     for direction in [SEALING, OPENING] {
-        for trial in trials(210 + direction as u64, &[65536, u32::MAX as usize]) {
+        for trial in trials(210 + direction as u64, &[1 << 24, u32::MAX as usize]) {
             let tag = if direction == OPENING { trial.lengths.tag } else { None };
             let lengths = Lengths { out: None, tag, ..trial.lengths };
             if let Some(number) = refusal(trial.instance, &lengths) {

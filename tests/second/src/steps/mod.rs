@@ -4,6 +4,7 @@
 mod isap;
 mod spook;
 
+use crate::calls::{MOST_ASSOC, MOST_TEXT};
 use crate::instances::ALL;
 use crate::plan::rounds;
 use crate::record::{Place, Record, OPENING, SEALING, UNENDED, WELL, WRONG_TAG};
@@ -88,7 +89,7 @@ fn ending_allowed(r: &Record) -> bool {
 /// Whether a record can stand; if so, the places of its rounds.
 pub fn standing(r: &Record) -> Option<Vec<Place>> {
     let known = ALL.contains(&r.instance) && [SEALING, OPENING].contains(&r.direction);
-    if !known || r.assoc > 256 || r.text > 4096 {
+    if !known || r.assoc as usize > MOST_ASSOC || r.text as usize > MOST_TEXT {
         return None;
     }
     let places = places(r.instance, r.direction, r.assoc as usize, r.text as usize);
