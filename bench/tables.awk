@@ -1,5 +1,7 @@
 # The tables of docs/BENCHMARK.md: `part` says which. Lines are 'OPERATION INSTANCE ASSOC TEXT BUDGET OURS BASELINE', for the part `stack`
-# 'INSTANCE SEALING OPENING'. For the part `times` a request has several lines, and lines 'NAME=VALUE' stand before them.
+# 'INSTANCE SEALING OPENING SEALING OPENING', first of the short text and then of the long one. For the part `times` a request has several
+# lines, and lines 'NAME=VALUE' stand before them. For the parts `bytes`, `long` and `linear` lines are 'OPERATION INSTANCE TEXT
+# INSTRUCTIONS'; `linear` prints no table: its exit status is 0 if the cost is linear in the text.
 
 BEGIN {
     instances = split("ISAP-A-128a ISAP-A-128 ISAP-K-128a ISAP-K-128 Spook-128-512-su", name)
@@ -11,12 +13,19 @@ BEGIN {
     split("0 16", assocs)
     split("0 16 64 256 1024 4096", texts)
     split("1 8 64 4294967295", budgets)
+    split("4096 65536 1048576", lengths)
     aim = 1.5
     apart = 1.1
+    percent = 2
 }
 
 part == "stack" {
-    stack = stack "| " $1 " " name[$1] " | " spelled($2) " | " spelled($3) " |\n"
+    stack = stack "| " $1 " " name[$1] " | " spelled($2) " | " spelled($4) " | " spelled($3) " | " spelled($5) " |\n"
+    next
+}
+
+part == "bytes" || part == "long" || part == "linear" {
+    spent[$1, $2, $3] = $4
     next
 }
 
@@ -48,7 +57,13 @@ END {
     else if (part == "times")
         times()
     else if (part == "stack")
-        printf "| Instance | sealing | opening |\n|---|---|---|\n%s", stack
+        printf "| Instance | sealing 4,096 | 1,048,576 | opening 4,096 | 1,048,576 |\n|---|---|---|---|---|\n%s", stack
+    else if (part == "bytes")
+        each_byte()
+    else if (part == "long")
+        long_calls()
+    else if (part == "linear")
+        exit far()
 }
 
 # A number with commas between its thousands.
@@ -111,7 +126,7 @@ function furthest(    k, worst, f) {
             worst = k
     split(worst, f, SUBSEP)
     printf "Of whole calls it is furthest from the baseline when %s %s bytes with %s of associated data in instance %s: %.2f times.\n", \
-        f[1] == 1 ? "sealing" : "opening", spelled(f[4]), f[3], f[2], ratio(worst)
+        direction(f[1]), spelled(f[4]), f[3], f[2], ratio(worst)
 }
 
 # Instructions a round of sealing 4,096 bytes, all that is not a round counted in.
@@ -201,4 +216,70 @@ function times(    i, y) {
     for (i = 1; i <= instances; i++)
         for (y = 1; y <= 6; y++)
             printf "| %d %s | %s | %s | %s |\n", i, name[i], spelled(texts[y]), taken(key(1, i, 0, texts[y], 0)), taken(key(2, i, 0, texts[y], 0))
+}
+
+function direction(operation) {
+    return operation == 1 ? "sealing" : "opening"
+}
+
+# What a byte of a text of m bytes costs: what the call takes more than one with an empty text.
+function a_byte(operation, i, m) {
+    return (spent[operation, i, m] - spent[operation, i, 0]) / m
+}
+
+# By how many percent the dearest byte of the three lengths is above the cheapest; 100 if a count is missing.
+function spread(operation, i,    x, b, cheapest, dearest) {
+    for (x = 1; x <= 3; x++) {
+        b = a_byte(operation, i, lengths[x])
+        cheapest = x == 1 || b < cheapest ? b : cheapest
+        dearest = b > dearest ? b : dearest
+    }
+    return spent[operation, i, 0] > 0 && cheapest > 0 ? 100 * (dearest / cheapest - 1) : 100
+}
+
+function bytes_row(operation, i,    x) {
+    printf "| %d %s | %s ", i, name[i], direction(operation)
+    for (x = 1; x <= 3; x++)
+        printf "| %.2f ", a_byte(operation, i, lengths[x])
+    printf "| %.2f %% |\n", spread(operation, i)
+}
+
+function each_byte(    i) {
+    print "| Instance | call | m = 4,096 | 65,536 | 1,048,576 | apart |\n|---|---|---|---|---|---|"
+    for (i = 1; i <= instances; i++) {
+        bytes_row(1, i)
+        bytes_row(2, i)
+    }
+}
+
+# The whole calls, each with its plain quotient of instructions and bytes.
+function long_row(operation, i,    x) {
+    printf "| %d %s | %s | %s ", i, name[i], direction(operation), spelled(spent[operation, i, 0])
+    for (x = 1; x <= 3; x++)
+        printf "| %s (%.2f) ", spelled(spent[operation, i, lengths[x]]), spent[operation, i, lengths[x]] / lengths[x]
+    print "|"
+}
+
+function long_calls(    i) {
+    print "| Instance | call | m = 0 | 4,096 | 65,536 | 1,048,576 |\n|---|---|---|---|---|---|"
+    for (i = 1; i <= instances; i++) {
+        long_row(1, i)
+        long_row(2, i)
+    }
+}
+
+# Whether the three are too far apart, and a message if they are.
+function too_far(operation, i) {
+    if (spread(operation, i) <= percent)
+        return 0
+    printf "bench: %s in instance %d costs %.2f, %.2f and %.2f instructions a byte at 4,096, 65,536 and 1,048,576: %.2f %% apart\n", \
+        direction(operation), i, a_byte(operation, i, lengths[1]), a_byte(operation, i, lengths[2]), a_byte(operation, i, lengths[3]), \
+        spread(operation, i) > "/dev/stderr"
+    return 1
+}
+
+function far(    i, rows) {
+    for (i = 1; i <= instances; i++)
+        rows += too_far(1, i) + too_far(2, i)
+    return rows > 0
 }
