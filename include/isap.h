@@ -13,12 +13,13 @@
  *   2  key is not 16 bytes                   every lent byte is as it was
  *   3  nonce is not 16 bytes                 every lent byte is as it was
  *   4  associated data is above 256 bytes    every lent byte is as it was
- *   5  text is above 4,096 bytes             every lent byte is as it was
+ *   5  text is above 1,048,576 bytes         every lent byte is as it was
  *   6  out is not as long as text            every lent byte is as it was
  *   7  tag is not 16 bytes                   every lent byte is as it was
  *   8  the tag is not the right one (open)   every lent byte is as it was: no text is written before the tag was checked
  *
- * Rounds are 0 with 1 to 7, the verification's with 8, all that the call took with 0. The largest figure is 15,816.
+ * Rounds are 0 with 1 to 7, the verification's with 8, all that the call took with 0. The largest figure is 3,149,256: instance 2, 256
+ * bytes of associated data, 1,048,576 of text.
  *
  *   - In instances 1 to 4, where rounds are those of the permutation, a sealing takes as many as an opening of its result. An empty text
  *     costs the encryption's re-keying too: with no associated data a call that ends well takes 350, 3,144, 350 and 3,176.
@@ -27,7 +28,7 @@
  *     text and takes 12 + 12(u + v) more, or none more if the text is empty. With neither data nor text each takes 36.
  *
  * Document 01's other numbers (9, 10, 11, 100) belong to jobs in slices, which a host in C does not call; 12 to 14 belong to parcels
- * (parcel.h).
+ * (parcel.h), whose text has a smaller limit of its own.
  *
  * Pointers. A buffer is lent as a pointer and a length in bytes, for the time of the call, at any alignment. No pointer may be null, also
  * where the length is 0: lend the address of any byte then. Behind each pointer there must be as many bytes as the length says, also
@@ -39,11 +40,12 @@
  * may call it at the same time on buffers of their own. It allocates nothing, does no input or output, does not touch errno, raises no
  * signal and calls nothing but memcpy and memset. It uses SSE2 registers and the 128 bytes below the stack pointer (the red zone).
  *
- * Time. A call's time depends on instance, lengths and answer. The library's source has no branch and no index that depends on a byte of
- * key, text or state; what a compiler or a processor makes of it is not proved.
+ * Time. A call's time depends on instance, lengths and answer. It ends when all is done and cannot be stopped on the way: with a long text
+ * ask for its rounds beforehand (isap_plan_seal, isap_plan_total). The library's source has no branch and no index that depends on a byte
+ * of key, text or state; what a compiler or a processor makes of it is not proved.
  *
- * Stack. A call uses less than ISAP_STACK_BYTES, and leaves copies of the key and of inner states in the part that it used. A host that
- * shares its stack with code that it does not trust overwrites as many bytes after the call.
+ * Stack. A call uses less than ISAP_STACK_BYTES, however long the text is, and leaves copies of the key and of inner states in the part
+ * that it used. A host that shares its stack with code that it does not trust overwrites as many bytes after the call.
  */
 #ifndef ISAP_H
 #define ISAP_H
@@ -60,7 +62,7 @@ extern "C" {
 #define ISAP_NONCE_BYTES 16
 #define ISAP_TAG_BYTES 16
 #define ISAP_ASSOC_MAX 256
-#define ISAP_TEXT_MAX 4096
+#define ISAP_TEXT_MAX 1048576
 
 /*
  * Stack that is enough for a call with the C library's memcpy and memset, but not for a dynamic linker that looks these two up at their

@@ -58,6 +58,9 @@
  *   reading    14 (fewer than two bytes), 12, 14 (fewer than 15 bytes), 1, 5, 14 (ciphertext and tag are not all there)
  *   opening    those of reading, then 2, 6, 8
  *
+ * Parcels have a limit of their own for 5: a text of more than PARCEL_TEXT_MAX bytes is refused, though the calls of isap.h take up to
+ * ISAP_TEXT_MAX.
+ *
  * Rounds are, with 0, those of isap_plan_seal(instance, 15, m) for a building and those of isap_plan_total(instance, 15, m) for an
  * opening, and those of isap_plan_verify(instance, 15, m) with 8; else there are none.
  *

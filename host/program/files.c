@@ -14,38 +14,49 @@
 
 #include "status.h"
 
-/* Says what could not be done, and why. */
-static int failed(const char *what, const char *path, int cause)
+enum { FIRST_ROOM = 4096 };
+
+int failed(const char *to, const char *what, int cause)
 {
-    fprintf(stderr, "isap: cannot %s %s: %s\n", what, path, strerror(cause));
+    fprintf(stderr, "isap: cannot %s %s: %s\n", to, what, strerror(cause));
     return STATUS_IO;
 }
 
-static bool read_up_to_room(struct octets *into, int file)
+/* A room of twice the length, but of no more than is wanted. */
+static size_t wider(size_t room, size_t most)
+{
+    size_t twice = room == 0 ? FIRST_ROOM : 2 * room;
+    return twice < most ? twice : most;
+}
+
+/* Null, or what could not be done. */
+static const char *read_up_to(struct octets *into, size_t most, int file)
 {
     into->len = 0;
-    while (into->len < OCTETS_ROOM) {
-        ssize_t got = read(file, into->at + into->len, OCTETS_ROOM - into->len);
+    while (into->len < most) {
+        if (into->len == into->room && !octets_widen(into, wider(into->room, most)))
+            return "hold";
+        ssize_t got = read(file, into->at + into->len, into->room - into->len);
         if (got == 0)
-            return true;
+            return NULL;
         if (got > 0)
             into->len += (size_t)got;
         else if (errno != EINTR)
-            return false;
+            return "read";
     }
-    return true;
+    return NULL;
 }
 
-int read_octets(struct octets *into, const char *path)
+int read_octets(struct octets *into, size_t most, const char *path)
 {
     int file = path == NULL ? STDIN_FILENO : open(path, O_RDONLY | O_CLOEXEC);
     if (file < 0)
         return failed("open", path, errno);
-    bool done = read_up_to_room(into, file);
+    const char *undone = read_up_to(into, most, file);
     int cause = errno;
     if (path != NULL)
         close(file);
-    return done ? STATUS_WELL : failed("read", path == NULL ? "standard input" : path, cause);
+    return undone == NULL ? STATUS_WELL : failed(undone, path == NULL ? "standard input" : path, cause);
 }
 
 static bool write_all(int file, const uint8_t *from, size_t len)

@@ -20,14 +20,17 @@ static const char help[] =
     "  isap parcel show [--in F]\n"
     "  isap --help\n"
     "\n"
-    "seal reads a text of at most 4096 bytes and writes ciphertext and tag; open reads these and writes\n"
-    "the text, if the tag is right. plan prints the lines 'verify N', 'seal N' and 'total N': the rounds\n"
-    "of an opening with a wrong tag, of a sealing, and of an opening with a right tag.\n"
+    "seal reads a text of at most 1048576 bytes and writes ciphertext and tag; open reads these and\n"
+    "writes the text, if the tag is right. If the text is above 65536 bytes and standard error is a\n"
+    "terminal, a line there tells how the time goes by. plan prints the lines 'verify N', 'seal N' and\n"
+    "'total N': the rounds of an opening with a wrong tag, of a sealing, and of an opening with a right\n"
+    "tag.\n"
     "\n"
-    "parcel build reads a text and writes it as a parcel for the radio, with the counter after the last\n"
-    "one used. Before the parcel it prints a line 'counter N' on standard error: N is the last counter\n"
-    "used from then on, even if the parcel cannot be written. Store N before the parcel leaves the\n"
-    "mast; a counter that is used twice gives texts away. Without that line no counter was used.\n"
+    "parcel build reads a text of at most 4096 bytes and writes it as a parcel for the radio, with the\n"
+    "counter after the last one used. Before the parcel it prints a line 'counter N' on standard error:\n"
+    "N is the last counter used from then on, even if the parcel cannot be written. Store N before the\n"
+    "parcel leaves the mast; a counter that is used twice gives texts away. Without that line no counter\n"
+    "was used.\n"
     "\n"
     "parcel open reads a parcel and writes the text, if the tag is right. parcel show reads a parcel\n"
     "and prints the lines 'instance N', 'station N', 'counter N' and 'text N', which is the text's\n"
@@ -45,7 +48,8 @@ static const char help[] =
     "Exit status: 0 well; refusals: 1 instance, 2 key, 3 nonce, 4 associated data too long, 5 text too\n"
     "long, 6 output length, 7 tag length (sealed input cut short), 8 wrong tag, 12 wrong mark, 13 last\n"
     "counter already the largest, 14 parcel cut short; 64 the command line will not do; 74 a file cannot\n"
-    "be read or written. Unless it is 0, no file is written; what went to a pipe may be cut.\n";
+    "be read or written, or there is no memory for it. Unless it is 0, no file is written; what went to\n"
+    "a pipe may be cut.\n";
 
 struct named_job {
     const char *name;

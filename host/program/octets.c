@@ -1,6 +1,9 @@
 #include "octets.h"
 
+#include <stdlib.h>
 #include <string.h>
+
+#include "parcel.h"
 
 /* 0 to 15, or -1. */
 static int digit_value(char digit)
@@ -18,10 +21,28 @@ bool octets_from_hex(struct octets *into, const char *digits)
         int low = high < 0 ? -1 : digit_value(digits[1]);
         if (low < 0)
             return false;
-        if (into->len < OCTETS_ROOM)
+        if (into->len < into->room)
             into->at[into->len++] = (uint8_t)(16 * high + low);
     }
     return true;
+}
+
+bool octets_widen(struct octets *octets, size_t room)
+{
+    struct octets wider = {malloc(room), octets->len, room};
+    if (wider.at == NULL)
+        return false;
+    if (octets->len > 0)
+        memcpy(wider.at, octets->at, octets->len);
+    octets_drop(octets);
+    *octets = wider;
+    return true;
+}
+
+void octets_drop(struct octets *octets)
+{
+    wipe(octets->at, octets->room);
+    free(octets->at);
 }
 
 void wipe(void *from, size_t len)

@@ -6,15 +6,17 @@
 #include <stddef.h>
 #include <stdint.h>
 
-#include "parcel.h"
-
-/* One byte more than a parcel of the longest text: what is too long stays too long, and the library refuses it. */
-#define OCTETS_ROOM (ISAP_TEXT_MAX + PARCEL_ADDED_BYTES + 1)
-
+/* Bytes, and the room that there is for them: of a fixed length, or on the heap and widened as they come. */
 struct octets {
-    uint8_t at[OCTETS_ROOM];
-    size_t len;
+    uint8_t *at;
+    size_t len, room;
 };
+
+/* Moves the bytes to a room of this length on the heap, and wipes and frees the old one; false where there is no memory. */
+bool octets_widen(struct octets *octets, size_t room);
+
+/* Wipes and frees a room on the heap, or none. */
+void octets_drop(struct octets *octets);
 
 /* The bytes of a string of hex digit pairs, of which those beyond the room are left out; false where it is no such string. */
 bool octets_from_hex(struct octets *into, const char *digits);

@@ -6,6 +6,7 @@
 
 #include "files.h"
 #include "job.h"
+#include "progress.h"
 #include "status.h"
 
 /* Associated data may be left out; it is empty then. */
@@ -17,7 +18,8 @@ static int read_assoc(struct octets *into, const struct options *options)
     return read_bytes(into, digits == NULL && path == NULL ? none : digits, path, "--assoc");
 }
 
-static int read_sealing(struct job *job, const struct options *options)
+/* All but the input. */
+static int read_words(struct job *job, const struct options *options)
 {
     int status = read_instance(&job->instance, options);
     if (status == STATUS_WELL)
@@ -26,27 +28,44 @@ static int read_sealing(struct job *job, const struct options *options)
         status = read_bytes(&job->nonce, options->word[OPTION_NONCE], options->word[OPTION_NONCE_FILE], "--nonce");
     if (status == STATUS_WELL)
         status = read_assoc(&job->assoc, options);
-    if (status == STATUS_WELL)
-        status = read_input(job, options);
     return status;
 }
 
-static size_t seal_input(struct job *job, int *status)
+static int read_sealing(struct job *job, const struct options *options)
+{
+    int status = read_words(job, options);
+    return status == STATUS_WELL ? read_input(job, ISAP_TEXT_MAX + 1, options) : status;
+}
+
+static int read_opening(struct job *job, const struct options *options)
+{
+    int status = read_words(job, options);
+    return status == STATUS_WELL ? read_input(job, ISAP_TEXT_MAX + ISAP_TAG_BYTES + 1, options) : status;
+}
+
+static int seal_input(struct job *job)
 {
     size_t text_len = job->input.len;
-    *status = status_of(isap_seal(job->instance, job->key.at, job->key.len, job->nonce.at, job->nonce.len, job->assoc.at,
-                                  job->assoc.len, job->input.at, text_len, job->out, text_len, job->out + text_len, ISAP_TAG_BYTES));
-    return text_len + ISAP_TAG_BYTES;
+    uint8_t *out = job->out.at;
+    begin_progress("sealing", job->instance, text_len, isap_plan_seal(job->instance, (uint32_t)job->assoc.len, (uint32_t)text_len));
+    uint64_t answer = isap_seal(job->instance, job->key.at, job->key.len, job->nonce.at, job->nonce.len, job->assoc.at, job->assoc.len,
+                                job->input.at, text_len, out, text_len, out + text_len, ISAP_TAG_BYTES);
+    end_progress();
+    job->out.len = text_len + ISAP_TAG_BYTES;
+    return status_of(answer);
 }
 
 /* The input's last 16 bytes are the tag; where there are fewer, all of them are lent as the tag, which is refused. */
-static size_t open_input(struct job *job, int *status)
+static int open_input(struct job *job)
 {
     size_t text_len = job->input.len < ISAP_TAG_BYTES ? 0 : job->input.len - ISAP_TAG_BYTES;
-    *status = status_of(isap_open(job->instance, job->key.at, job->key.len, job->nonce.at, job->nonce.len, job->assoc.at,
-                                  job->assoc.len, job->input.at, text_len, job->input.at + text_len, job->input.len - text_len,
-                                  job->out, text_len));
-    return text_len;
+    const uint8_t *tag = job->input.at + text_len;
+    begin_progress("opening", job->instance, text_len, isap_plan_total(job->instance, (uint32_t)job->assoc.len, (uint32_t)text_len));
+    uint64_t answer = isap_open(job->instance, job->key.at, job->key.len, job->nonce.at, job->nonce.len, job->assoc.at, job->assoc.len,
+                                job->input.at, text_len, tag, job->input.len - text_len, job->out.at, text_len);
+    end_progress();
+    job->out.len = text_len;
+    return status_of(answer);
 }
 
 int run_seal(const struct options *options)
@@ -56,7 +75,7 @@ int run_seal(const struct options *options)
 
 int run_open(const struct options *options)
 {
-    return run_job(read_sealing, open_input, options);
+    return run_job(read_opening, open_input, options);
 }
 
 int run_plan(const struct options *options)

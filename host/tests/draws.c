@@ -3,10 +3,15 @@
 #include "isap.h"
 #include "random.h"
 
+/* The longest text that is drawn for a call that is to end well. Images, which take longer, are no matter of draws. */
+enum { DRAWN_TEXT_MAX = 4160 };
+
 /* Now and then any length up to the largest, the lengths at the edges of blocks, and none. */
 size_t draw_length(uint32_t largest)
 {
-    static const uint32_t edges[] = {0, 7, 8, 9, 16, 17, 18, 19, 31, 32, 33, 36, 63, 64, 65, 252, 255, 256, 4064, 4065, 4086, 4095, 4096};
+    static const uint32_t edges[] = {
+        0, 7, 8, 9, 16, 17, 18, 19, 31, 32, 33, 36, 63, 64, 65, 252, 255, 256, 4064, 4065, 4086, 4095, 4096, 4097, DRAWN_TEXT_MAX,
+    };
     uint32_t edge = edges[random_below(sizeof edges / sizeof edges[0])];
     switch (random_below(16)) {
     case 0:
@@ -28,7 +33,7 @@ uint32_t draw_instance(void)
 
 struct lengths draw_lengths(void)
 {
-    struct lengths lengths = {16, 16, draw_length(ISAP_ASSOC_MAX), draw_length(ISAP_TEXT_MAX), 0, 16};
+    struct lengths lengths = {16, 16, draw_length(ISAP_ASSOC_MAX), draw_length(DRAWN_TEXT_MAX), 0, 16};
     lengths.out = lengths.text;
     return lengths;
 }
@@ -57,7 +62,7 @@ void spoil(uint32_t *instance, struct lengths *lengths)
     if (sure == 3 || one_in(12))
         lengths->assoc = ISAP_ASSOC_MAX + 1 + random_below(one_in(8) ? 3000 : 8);
     if (sure == 4 || one_in(12)) {
-        lengths->text = ISAP_TEXT_MAX + 1 + random_below(120);
+        lengths->text = ISAP_TEXT_MAX + 1 + random_below(one_in(2) ? 1 : 120);
         lengths->out = lengths->text;
     }
     if (sure == 5 || one_in(12))

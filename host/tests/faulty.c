@@ -37,6 +37,10 @@ static uint64_t spoiled(uint64_t answer, uint32_t instance, size_t assoc_len, si
         return answer + ((uint64_t)1 << 32);
     if (fault("rounds_of_a_refusal") && number == ISAP_LONG_TEXT)
         return answer + ((uint64_t)1 << 32);
+    if (fault("limit_of_4096") && number == ISAP_ENDED_WELL && text_len > 4096)
+        return ISAP_LONG_TEXT;
+    if (fault("one_byte_more_taken") && number == ISAP_LONG_TEXT && text_len == ISAP_TEXT_MAX + 1)
+        return ISAP_ENDED_WELL;
     if (fault("key_and_nonce_exchanged") && (number == ISAP_BAD_KEY || number == ISAP_BAD_NONCE))
         return ISAP_BAD_KEY + ISAP_BAD_NONCE - number;
     return answer;
@@ -70,6 +74,8 @@ uint64_t __wrap_isap_seal(uint32_t instance, const uint8_t *key, size_t key_len,
         flip(key);
     if (fault("tag_written_with_a_refusal") && isap_number(answer) == ISAP_LONG_ASSOC && tag_len > 0)
         flip(tag);
+    if (fault("output_written_with_a_long_text") && isap_number(answer) == ISAP_LONG_TEXT && out_len > 0)
+        flip(out + out_len - 1);
     if (fault("ciphertext_bit") && well && out_len > 0)
         flip(out);
     if (fault("another_tag") && well)

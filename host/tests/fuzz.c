@@ -114,12 +114,27 @@ static void expect_plan(uint64_t plan, uint32_t number, uint32_t (*rules)(uint32
     hold(isap_rounds(plan) == (number == 0 ? rules(instance, lengths->assoc, lengths->text) : 0), "rounds of a plan");
 }
 
+/* Any length, often one at the limit or a short one. */
+static uint32_t draw_planned_text(void)
+{
+    switch (random_below(4)) {
+    case 0:
+        return (uint32_t)random_word();
+    case 1:
+        return ISAP_TEXT_MAX - 4 + random_below(8);
+    case 2:
+        return random_below(2 * ISAP_TEXT_MAX);
+    default:
+        return random_below(8192);
+    }
+}
+
 /* Plans of any two lengths. */
 static void planned_calls(void)
 {
     uint32_t instance = one_in(4) ? draw_unknown_instance() : draw_instance();
     uint32_t assoc = one_in(4) ? (uint32_t)random_word() : random_below(2 * ISAP_ASSOC_MAX);
-    uint32_t text = one_in(4) ? (uint32_t)random_word() : random_below(2 * ISAP_TEXT_MAX);
+    uint32_t text = draw_planned_text();
     struct lengths lengths = {16, 16, assoc, text, text, 16};
     uint32_t number = rules_refusal(instance, &lengths);
     expect_plan(isap_plan_verify(instance, assoc, text), number, rules_verify, instance, &lengths);

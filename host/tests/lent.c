@@ -3,21 +3,34 @@
 #include <string.h>
 #include <sys/mman.h>
 
-#include "isap.h"
 #include "random.h"
 
 static const size_t MUCH = ((size_t)1 << 32) + LENT_GUARD;
 
+/* Where the gap begins and ends that is neither drawn nor kept. It is empty, and stands at the end, unless the length is refused. */
+static size_t gap_begin(const struct lent *lent)
+{
+    return lent->len > ISAP_TEXT_MAX ? LENT_END : lent->len;
+}
+
+static size_t gap_end(const struct lent *lent)
+{
+    return lent->len > ISAP_TEXT_MAX ? lent->len - LENT_END : lent->len;
+}
+
 void remember(struct lent *lent)
 {
-    memcpy(lent->before, lent->at - LENT_GUARD, LENT_GUARD + lent->len + LENT_GUARD);
+    size_t begin = gap_begin(lent), end = gap_end(lent);
+    memcpy(lent->before, lent->at - LENT_GUARD, LENT_GUARD + begin);
+    memcpy(lent->before + LENT_GUARD + end, lent->at + end, lent->len - end + LENT_GUARD);
 }
 
 void lend(struct lent *lent, size_t len)
 {
     lent->at = lent->room + LENT_GUARD + random_below(LENT_SHIFTS);
     lent->len = len;
-    random_fill(lent->at - LENT_GUARD, LENT_GUARD + len + LENT_GUARD);
+    random_fill(lent->at - LENT_GUARD, LENT_GUARD + gap_begin(lent));
+    random_fill(lent->at + gap_end(lent), len - gap_end(lent) + LENT_GUARD);
     remember(lent);
 }
 
@@ -58,7 +71,9 @@ void lend_all(struct call *call, uint32_t instance, const struct lengths *length
 
 bool unchanged(const struct lent *lent)
 {
-    return memcmp(lent->before, lent->at - LENT_GUARD, LENT_GUARD + lent->len + LENT_GUARD) == 0;
+    size_t begin = gap_begin(lent), end = gap_end(lent);
+    return memcmp(lent->before, lent->at - LENT_GUARD, LENT_GUARD + begin) == 0 &&
+           memcmp(lent->before + LENT_GUARD + end, lent->at + end, lent->len - end + LENT_GUARD) == 0;
 }
 
 bool guards_unchanged(const struct lent *lent)

@@ -1,4 +1,8 @@
-/* Buffers that a test lends to a call. Each stands at an odd place between guard bytes, and what it held before is kept. */
+/*
+ * Buffers that a test lends to a call. Each stands at an odd place between guard bytes, and what it held before is kept. Of one that is too
+ * long for any call, LENT_END bytes at each end are drawn and kept, the rest is left as it was: a megabyte drawn for every refusal would
+ * take too long. A lent buffer has two megabytes of room, so it is static.
+ */
 #ifndef LENT_H
 #define LENT_H
 
@@ -6,9 +10,10 @@
 #include <stddef.h>
 #include <stdint.h>
 
+#include "isap.h"
 #include "rules.h"
 
-enum { LENT_GUARD = 64, LENT_SHIFTS = 16, LENT_MAX = 4224 };
+enum { LENT_GUARD = 64, LENT_SHIFTS = 16, LENT_END = 512, LENT_MAX = ISAP_TEXT_MAX + 128 };
 
 struct lent {
     uint8_t room[LENT_GUARD + LENT_SHIFTS + LENT_MAX + LENT_GUARD];

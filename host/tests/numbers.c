@@ -1,4 +1,7 @@
-/* The library through C: every number from 0 to 8 with what it leaves, the order of refusals, and rounds by the documents' tables. */
+/*
+ * The library through C: every number from 0 to 8 with what it leaves, the order of refusals, and rounds by the documents' tables. Usage
+ * `numbers`, or `numbers images` for whole calls on images, which take longer.
+ */
 #include <errno.h>
 #include <string.h>
 
@@ -22,7 +25,7 @@ static void refused(uint32_t instance, const struct lengths *lengths, uint32_t n
 /* Everything is wrong; mending one thing after the other gives the next number. */
 static void refusals_in_order(uint32_t instance)
 {
-    struct lengths lengths = {15, 17, 257, 4097, 4096, 15};
+    struct lengths lengths = {15, 17, 257, 1048577, 4096, 15};
     refused(0, &lengths, 1);
     refused(instance, &lengths, 2);
     lengths.key = 16;
@@ -46,16 +49,20 @@ static void refusals_alone(void)
         uint32_t number;
     } cases[] = {
         {6, {16, 16, 8, 8, 8, 16}, 1},    {UINT32_MAX, {16, 16, 8, 8, 8, 16}, 1},
-        {261, {16, 16, 8, 8, 8, 16}, 1},  {5, {16, 16, 8, 4097, 4097, 16}, 5},
+        {261, {16, 16, 8, 8, 8, 16}, 1},  {5, {16, 16, 8, 1048577, 1048577, 16}, 5},
         {5, {0, 16, 8, 8, 8, 16}, 2},     {5, {16, 17, 8, 8, 8, 16}, 3},
         {5, {16, 16, 257, 8, 8, 16}, 4},  {5, {16, 16, 8, 8, 32, 16}, 6},
         {5, {16, 16, 8, 8, 8, 0}, 7},     {5, {16, 16, 8, 8, 8, 32}, 7},
         {1, {0, 16, 8, 8, 8, 16}, 2},     {1, {17, 16, 8, 8, 8, 16}, 2},
         {2, {16, 0, 8, 8, 8, 16}, 3},     {2, {16, 32, 8, 8, 8, 16}, 3},
-        {3, {16, 16, 257, 8, 8, 16}, 4},  {4, {16, 16, 8, 4097, 4097, 16}, 5},
+        {3, {16, 16, 257, 8, 8, 16}, 4},  {4, {16, 16, 8, 1048577, 1048577, 16}, 5},
         {1, {16, 16, 8, 8, 9, 16}, 6},    {1, {16, 16, 8, 0, 1, 16}, 6},
         {1, {16, 16, 8, 8, 8, 0}, 7},     {1, {16, 16, 8, 8, 8, 17}, 7},
-        {3, {16, 16, 257, 4097, 4097, 16}, 4},
+        {1, {16, 16, 8, 1048577, 1, 16}, 5},
+        {1, {16, 16, 8, 1048576, 1048575, 16}, 6},
+        {2, {16, 16, 256, 1048576, 1048576, 15}, 7},
+        {2, {16, 16, 0, 1048577, 1048577, 16}, 5},
+        {3, {16, 16, 257, 1048577, 1048577, 16}, 4},
     };
     refused(0, &right, 1);
     for (size_t i = 0; i < sizeof cases / sizeof cases[0]; i++)
@@ -85,14 +92,19 @@ static void answers(uint64_t answer, uint32_t number, uint32_t rounds)
     check(isap_number(answer) == number && isap_rounds(answer) == rounds);
 }
 
+static void planned(uint32_t instance, uint32_t assoc, uint32_t text, uint32_t verify, uint32_t sealing, uint32_t opening)
+{
+    answers(isap_plan_verify(instance, assoc, text), ISAP_ENDED_WELL, verify);
+    answers(isap_plan_seal(instance, assoc, text), ISAP_ENDED_WELL, sealing);
+    answers(isap_plan_total(instance, assoc, text), ISAP_ENDED_WELL, opening);
+}
+
 /* Planned, sealed, opened, and opened with a wrong tag: numbers, rounds, bytes. */
-static void rounds_of(uint32_t instance, size_t assoc, size_t text, uint32_t verify, uint32_t sealing, uint32_t opening)
+static void rounds_of(uint32_t instance, uint32_t assoc, uint32_t text, uint32_t verify, uint32_t sealing, uint32_t opening)
 {
     static uint8_t plain[ISAP_TEXT_MAX];
     const struct lengths lengths = {16, 16, assoc, text, text, 16};
-    answers(isap_plan_verify(instance, (uint32_t)assoc, (uint32_t)text), ISAP_ENDED_WELL, verify);
-    answers(isap_plan_seal(instance, (uint32_t)assoc, (uint32_t)text), ISAP_ENDED_WELL, sealing);
-    answers(isap_plan_total(instance, (uint32_t)assoc, (uint32_t)text), ISAP_ENDED_WELL, opening);
+    planned(instance, assoc, text, verify, sealing, opening);
     errno = ERANGE;
     lend_all(&call, instance, &lengths);
     memcpy(plain, call.text.at, text);
@@ -141,11 +153,57 @@ static void spook_rounds(void)
         rounds_of(5, table[i][0], table[i][1], table[i][2], table[i][2], table[i][3]);
 }
 
+/* Longer texts than the documents' tables have, by their formulas: instance, lengths, verification, sealing, opening. */
+static void long_texts(void)
+{
+    static const uint32_t table[][6] = {
+        {1, 0, 4097, 6343, 9572, 9572},
+        {1, 0, 65535, 98491, 147794, 147794},
+        {1, 0, 65536, 98503, 147806, 147806},
+        {1, 0, 65537, 98503, 147812, 147812},
+        {3, 0, 4097, 3839, 5806, 5806},
+        {5, 0, 4097, 1584, 1584, 3144},
+        {5, 0, 65537, 24624, 24624, 49224},
+    };
+    for (size_t i = 0; i < sizeof table / sizeof table[0]; i++)
+        rounds_of(table[i][0], table[i][1], table[i][2], table[i][3], table[i][4], table[i][5]);
+}
+
+/* The same at the limit, or as near below it as makes another number of blocks. */
+static void images(void (*have_rounds)(uint32_t, uint32_t, uint32_t, uint32_t, uint32_t, uint32_t))
+{
+    static const uint32_t table[][6] = {
+        {1, 0, 1048575, 1573051, 2359634, 2359634},
+        {1, 256, 1048576, 1573447, 2360030, 2360030},
+        {2, 256, 1048576, 1574844, 3149256, 3149256},
+        {3, 0, 1048572, 932271, 1398446, 1398446},
+        {3, 256, 1048576, 932495, 1398678, 1398678},
+        {4, 256, 1048576, 1166988, 1867596, 1867596},
+        {5, 0, 1048544, 393240, 393240, 786456},
+        {5, 256, 1048576, 393348, 393348, 786672},
+    };
+    for (size_t i = 0; i < sizeof table / sizeof table[0]; i++)
+        have_rounds(table[i][0], table[i][1], table[i][2], table[i][3], table[i][4], table[i][5]);
+}
+
 static void plans_refused(void)
 {
     static const uint32_t cases[][4] = {
-        {0, 0, 0, 1},          {6, 257, 4097, 1},     {1, 257, 0, 4},    {2, 0, 4097, 5},    {3, 257, 4097, 4},     {4, UINT32_MAX, 0, 4},
-        {4, 0, UINT32_MAX, 5}, {UINT32_MAX, 0, 0, 1}, {5, 257, 4097, 4}, {5, 256, 4097, 5},  {5, UINT32_MAX, 0, 4}, {5, 0, UINT32_MAX, 5},
+        {0, 0, 0, 1},
+        {6, 257, 1048577, 1},
+        {UINT32_MAX, 0, 0, 1},
+        {1, 257, 0, 4},
+        {2, 257, 1048576, 4},
+        {3, 257, 1048577, 4},
+        {4, UINT32_MAX, 0, 4},
+        {5, 257, 1048577, 4},
+        {5, UINT32_MAX, 0, 4},
+        {1, 0, 1048577, 5},
+        {2, 0, 1048577, 5},
+        {3, 256, 1048577, 5},
+        {4, 0, UINT32_MAX, 5},
+        {5, 256, 1048577, 5},
+        {5, 0, UINT32_MAX, 5},
     };
     for (size_t i = 0; i < sizeof cases / sizeof cases[0]; i++) {
         check(isap_plan_verify(cases[i][0], cases[i][1], cases[i][2]) == cases[i][3]);
@@ -154,7 +212,7 @@ static void plans_refused(void)
     }
 }
 
-int main(void)
+static void numbers(void)
 {
     for (uint32_t instance = 1; instance <= 5; instance++)
         refusals_in_order(instance);
@@ -163,6 +221,16 @@ int main(void)
     document_01_table();
     empty_heartbeat();
     spook_rounds();
+    long_texts();
+    images(planned);
     plans_refused();
+}
+
+int main(int count, char **words)
+{
+    if (count > 1 && strcmp(words[1], "images") == 0)
+        images(rounds_of);
+    else
+        numbers();
     return checks_ended("numbers");
 }

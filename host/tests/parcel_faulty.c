@@ -40,6 +40,8 @@ static uint64_t spoiled_building(uint64_t answer, size_t key_len, uint64_t last)
         return answer + ((uint64_t)1 << 32);
     if (fault("rounds_of_a_refused_parcel") && number == PARCEL_COUNTER_SPENT)
         return answer + ((uint64_t)1 << 32);
+    if (fault("isaps_limit_for_a_parcel") && number == ISAP_LONG_TEXT)
+        return ISAP_ENDED_WELL;
     if (fault("key_before_instance") && number == ISAP_BAD_INSTANCE && key_len != ISAP_KEY_BYTES)
         return ISAP_BAD_KEY;
     if (fault("counter_before_output") && number == ISAP_BAD_OUT && last == UINT64_MAX)

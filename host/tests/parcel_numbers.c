@@ -42,7 +42,9 @@ static void sends(uint32_t instance, uint16_t station, uint64_t last, size_t tex
 /* Everything is wrong; mending one thing after the other gives the next number. */
 static void building_in_order(void)
 {
-    call = (struct parcel_call){.instance = 0, .station = 7, .last = UINT64_MAX};
+    call.instance = 0;
+    call.station = 7;
+    call.last = UINT64_MAX;
     builds(15, 4097, 4127, 1);
     call.instance = 1;
     builds(15, 4097, 4127, 2);
@@ -67,6 +69,8 @@ static void building_alone(void)
         {1, 16, 0, 31, 0},     {1, 16, 1, 32, 0},      {1, 16, 4096, 4127, 0}, {2, 16, 0, 31, 0},          {2, 16, 1, 32, 0},
         {2, 16, 4096, 4127, 0}, {3, 16, 0, 31, 0},     {3, 16, 4095, 4126, 0}, {4, 16, 1, 32, 0},          {4, 16, 4096, 4127, 0},
         {5, 17, 8, 39, 2},     {5, 16, 4097, 4128, 5}, {5, 16, 32, 62, 6},     {5, 16, 0, 31, 0},          {5, 16, 4096, 4127, 0},
+        /* Lengths that isap takes: one that two bytes would hold, one that they would cut to 0, the longest. */
+        {1, 16, 8192, 8223, 5}, {3, 16, 65536, 65567, 5}, {5, 16, 1048576, 1048607, 5},
     };
     for (size_t i = 0; i < sizeof cases / sizeof cases[0]; i++) {
         call.instance = cases[i].instance;
@@ -113,7 +117,8 @@ static void planned(uint32_t instance, uint32_t text)
 
 static void rounds(void)
 {
-    call = (struct parcel_call){.station = 7, .last = 41};
+    call.station = 7;
+    call.last = 41;
     for (uint32_t instance = 1; instance <= 5; instance++) {
         planned(instance, 0);
         planned(instance, 40);
@@ -228,7 +233,7 @@ static void bytes_behind(void)
 {
     for (size_t behind = 0; behind < 20; behind++)
         sends(1, 12, behind, behind, 3 * behind);
-    sends(3, 12, 41, PARCEL_TEXT_MAX, LENT_MAX - PARCEL_TEXT_MAX - PARCEL_ADDED_BYTES);
+    sends(3, 12, 41, PARCEL_TEXT_MAX, ISAP_TEXT_MAX - PARCEL_TEXT_MAX - PARCEL_ADDED_BYTES);
     sends(3, 12, 41, 40, 40 + PARCEL_ADDED_BYTES);
     memcpy(call.input.at + 40 + PARCEL_ADDED_BYTES, call.input.at, 40 + PARCEL_ADDED_BYTES);
     remember(&call.input);

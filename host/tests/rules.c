@@ -22,7 +22,7 @@ uint32_t rules_refusal(uint32_t instance, const struct lengths *lengths)
         return 3;
     if (lengths->assoc > 256)
         return 4;
-    if (lengths->text > 4096)
+    if (lengths->text > 1048576)
         return 5;
     if (lengths->out != lengths->text)
         return 6;

@@ -1,6 +1,6 @@
 /*
- * The stack that a call needs. Fails if a call needs more than three quarters of what its header says, and if the program's wiping of the
- * stack leaves key bytes.
+ * The stack that a call needs. Fails if a call needs more than three quarters of what its header says, if an image needs more than a short
+ * text, and if the program's wiping of the stack leaves key bytes.
  */
 #include <stdio.h>
 #include <string.h>
@@ -9,6 +9,7 @@
 #include "lent.h"
 #include "octets.h"
 #include "painted.h"
+#include "parcel.h"
 #include "parcel_calls.h"
 
 static struct call call;
@@ -100,6 +101,16 @@ static void within(const char *header, size_t depth, size_t said)
     check(depth > surroundings && depth <= said / 4 * 3 + surroundings);
 }
 
+/* The stack does not depend on the text's length. */
+static void image_as_deep(uint32_t instance)
+{
+    size_t image = deepest(instance, 256, ISAP_TEXT_MAX), text = deepest(instance, 256, 4096);
+    size_t surroundings = depth_of(no_call, ISAP_ENDED_WELL);
+    printf("stack: instance %u, %zu bytes with a text of %d and %zu with one of 4096\n", (unsigned)instance, image - surroundings,
+           ISAP_TEXT_MAX, text - surroundings);
+    check(image == text);
+}
+
 static bool on_stack(const struct lent *key)
 {
     for (size_t i = 0; i + key->len <= sizeof painted; i++) {
@@ -134,6 +145,8 @@ int main(void)
     }
     within("isap.h", most, ISAP_STACK_BYTES);
     within("parcel.h", most_of_a_parcel, PARCEL_STACK_BYTES);
+    image_as_deep(ISAP_A_128A);
+    image_as_deep(ISAP_SPOOK_128_512_SU);
     for (uint32_t instance = 1; instance <= 5; instance++) {
         lend_all(&call, instance, &lengths);
         wiped_after(sealing, &call.key);
