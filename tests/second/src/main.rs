@@ -30,7 +30,7 @@ mod written;
 use std::io::Write;
 
 const USAGE: &str = "usage: second permutations states|answers, plan rows|many|lengths requests|lines, cases file|summary, \
-    parcels cases file|summary, tasks, tables, answers, checks, known FOLDER, sealed FILE, parcels FILE, image, or images FOLDER";
+    parcels cases file|summary, tasks, tables, answers, checks, known FOLDER, sealed FILE, parcels FILE, or images FOLDER";
 
 /// A report; where it tells a failure it goes to the error output and the program fails.
 fn passed((report, failed): (String, bool)) -> String {
@@ -64,7 +64,6 @@ fn main() {
         ["tables"] => tables::file().into_bytes(),
         ["sealed", file] => passed(lines::report(file, "sealed", sealed::agrees)).into_bytes(),
         ["parcels", file] => passed(lines::report(file, "parcels", parcels::agrees)).into_bytes(),
-        ["image"] => images::image(),
         ["images", folder] => passed(images::report(folder)).into_bytes(),
         _ => {
             eprintln!("{USAGE}");
