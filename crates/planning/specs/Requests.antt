@@ -33,7 +33,13 @@ unfolding planOf rest restOf
 planned-rest i a m h = rw (le-leb m mostText h) (go (known i) (leb a mostAssoc))
   where
     plan : Planned
-    plan = record { number = 0; verify = schemeOf i .frontCount false a m; sealing = allCount (schemeOf i) true a m; total = allCount (schemeOf i) false a m }
+    plan =
+        record {
+          number = 0;
+          verify = schemeOf i .frontCount false a m;
+          sealing = allCount (schemeOf i) true a m;
+          total = allCount (schemeOf i) false a m;
+        }
 
     go : (b c : Bool)
         → rest (pick b (pick c plan (unplanned 4)) (unplanned 1))

@@ -4,7 +4,7 @@
 use super::{beginning, case, filling_of, Allowed, Message};
 use crate::calls::{number_of, slice, MOST_ASSOC, MOST_TEXT};
 use crate::filling::checksum;
-use crate::paper::{noted, Given, Noted};
+use crate::paper::{ended, noted, Given, Noted};
 use crate::plan::rounds;
 use crate::record::{Record, OPENING, SEALING};
 
@@ -41,7 +41,8 @@ fn sealed(message: &Message) -> (String, Noted) {
     let given = &message.given;
     let turns = AMID_THE_IMAGE[given.instance as usize - 1];
     let done = turns * BUDGET;
-    let [part, whole]: [Noted; 2] = noted(given, SEALING, [0; 16], &message.before, &[done as usize, usize::MAX]).try_into().ok().expect("two");
+    let stops = [done as usize, usize::MAX];
+    let [part, whole]: [Noted; 2] = noted(given, SEALING, [0; 16], &message.before, &stops).try_into().ok().expect("two stops");
     assert!(part.out != message.before && part.out != whole.out, "some of the image is sealed");
     assert!(whole.record.done as usize == rounds(given.instance, MOST_ASSOC, MOST_TEXT).sealing, "all its rounds are done");
     let report = Report { number: number_of(&part.record), served: turns, waited: BUDGET };
@@ -50,8 +51,7 @@ fn sealed(message: &Message) -> (String, Noted) {
 
 /// An opening's line.
 fn opened(job: &str, received: &Given, tag: [u8; 16], before: &[u8]) -> String {
-    let [left]: [Noted; 1] = noted(received, OPENING, tag, before, &[usize::MAX]).try_into().ok().expect("one");
-    to_the_end(job, received, 0, &left)
+    to_the_end(job, received, 0, &ended(received, OPENING, tag, before))
 }
 
 /// A record of a text of one byte more, which cannot stand.
