@@ -6,9 +6,7 @@
 
 #include "isap.h"
 
-enum { LONGEST = 1048576 };
-
-static uint8_t key[16], nonce[16], tag[16], text[LONGEST], cipher[LONGEST], opened[LONGEST];
+static uint8_t key[16], nonce[16], tag[16], text[ISAP_TEXT_MAX], cipher[ISAP_TEXT_MAX], opened[ISAP_TEXT_MAX];
 static uint32_t instance, length;
 
 static uint64_t seal(void)
@@ -47,11 +45,11 @@ static uint32_t number(const char *digits)
 
 int main(int argc, char **argv)
 {
-    if (argc != 5 || number(argv[3]) > LONGEST)
+    if (argc != 5 || number(argv[3]) > ISAP_TEXT_MAX)
         return 2;
     instance = number(argv[2]);
     length = number(argv[3]);
-    for (size_t i = 0; i < LONGEST; i++)
+    for (size_t i = 0; i < ISAP_TEXT_MAX; i++)
         text[i] = (uint8_t)i;
     if (number(argv[1]) == 1)
         return !seals(number(argv[4]));

@@ -5,7 +5,7 @@
 #include "isap.h"
 #include "painted.h"
 
-enum { ASSOC = 256, SHORT = 4096, LONG = 1048576 };
+enum { ASSOC = ISAP_ASSOC_MAX, SHORT = 4096, LONG = ISAP_TEXT_MAX };
 
 static uint8_t key[16], nonce[16], tag[16], assoc[ASSOC], text[LONG], cipher[LONG], opened[LONG];
 static uint32_t instance;

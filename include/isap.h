@@ -40,9 +40,9 @@
  * may call it at the same time on buffers of their own. It allocates nothing, does no input or output, does not touch errno, raises no
  * signal and calls nothing but memcpy and memset. It uses SSE2 registers and the 128 bytes below the stack pointer (the red zone).
  *
- * Time. A call's time depends on instance, lengths and answer. It ends when all is done and cannot be stopped on the way: with a long text
- * ask for its rounds beforehand (isap_plan_seal, isap_plan_total). The library's source has no branch and no index that depends on a byte
- * of key, text or state; what a compiler or a processor makes of it is not proved.
+ * Time. A call's time depends on instance, lengths and answer. A call cannot be stopped on the way: with a long text ask for its rounds
+ * beforehand (isap_plan_seal, isap_plan_total). The library's source has no branch and no index that depends on a byte of key, text or
+ * state; what a compiler or a processor makes of it is not proved.
  *
  * Stack. A call uses less than ISAP_STACK_BYTES, however long the text is, and leaves copies of the key and of inner states in the part
  * that it used. A host that shares its stack with code that it does not trust overwrites as many bytes after the call.

@@ -8,8 +8,8 @@
 int failed(const char *to, const char *what, int cause);
 
 /*
- * Reads the file, or standard input where the path is null, and of it no more than so many bytes. A room that has less is widened. Gives an
- * exit status, its message printed.
+ * Reads the file, or standard input where the path is null, and of it no more than so many bytes. A room on the heap that has less is
+ * widened; one of a fixed length must have as many. Gives an exit status, its message printed.
  */
 int read_octets(struct octets *into, size_t most, const char *path);
 

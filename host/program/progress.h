@@ -6,8 +6,8 @@
 #include <stdint.h>
 
 /*
- * Shows the line for what is done to a text of so many bytes, with the rounds of the plan, if it is long and the plan not refused. It is
- * there at once, and is written anew in its place as time goes by.
+ * Shows the line for what is done to a text of so many bytes, if it is long and the plan not refused; how long it will take goes by the
+ * plan's rounds. It is there at once, and is written anew in its place as time goes by.
  */
 void begin_progress(const char *doing, uint32_t instance, size_t text_len, uint64_t plan);
 

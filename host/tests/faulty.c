@@ -39,6 +39,8 @@ static uint64_t spoiled(uint64_t answer, uint32_t instance, size_t assoc_len, si
         return answer + ((uint64_t)1 << 32);
     if (fault("limit_of_4096") && number == ISAP_ENDED_WELL && text_len > 4096)
         return ISAP_LONG_TEXT;
+    if (fault("largest_text_refused") && number == ISAP_ENDED_WELL && text_len == ISAP_TEXT_MAX)
+        return ISAP_LONG_TEXT;
     if (fault("one_byte_more_taken") && number == ISAP_LONG_TEXT && text_len == ISAP_TEXT_MAX + 1)
         return ISAP_ENDED_WELL;
     if (fault("key_and_nonce_exchanged") && (number == ISAP_BAD_KEY || number == ISAP_BAD_NONCE))

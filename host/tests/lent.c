@@ -7,7 +7,7 @@
 
 static const size_t MUCH = ((size_t)1 << 32) + LENT_GUARD;
 
-/* Where the gap begins and ends that is neither drawn nor kept. It is empty, and stands at the end, unless the length is refused. */
+/* Where the gap begins and ends that is neither drawn nor kept. It is empty, and stands at the end, unless the length is above the limit. */
 static size_t gap_begin(const struct lent *lent)
 {
     return lent->len > ISAP_TEXT_MAX ? LENT_END : lent->len;

@@ -1,6 +1,5 @@
 // Whole calls that are refused: the number, no rounds, and neither output nor tag touched. They are lent parts of two long
-// arrays: a text may have up to 128 bytes more than the library takes. Both hold the same bytes before a call, so the text tells afterwards
-// whether the output was touched.
+// arrays, each of one byte again and again: a text may have up to 128 bytes more than the library takes.
 use crate::calls;
 use crate::calls::Lent;
 use crate::room::Room;
@@ -32,8 +31,12 @@ fn read_lent(instance: u32) -> Lent {
     }
 }
 
-// A function of its own: an array written out where it is used is one that the prover unfolds.
-fn long() -> [u8; 1048704] {
+// Functions of their own: an array written out where it is used is one that the prover unfolds.
+fn long_text() -> [u8; 1048704] {
+    [85u8; 1048704]
+}
+
+fn long_out() -> [u8; 1048704] {
     [170u8; 1048704]
 }
 
@@ -65,7 +68,7 @@ fn read_trial() -> Trial {
     }
 }
 
-fn refused(c: Trial, text: &[u8], out: &mut [u8]) -> Verdict {
+fn refused(c: Trial, text: &[u8], before: &[u8], out: &mut [u8]) -> Verdict {
     let tag_before = [170u8; 32];
     let mut tag = [170u8; 32];
     let said = call(c, text, out, &mut tag);
@@ -77,7 +80,7 @@ fn refused(c: Trial, text: &[u8], out: &mut [u8]) -> Verdict {
     let answered = verdict::then_said(verdict::no_difference(), said, expected, 1);
     let kept = verdict::then(
         answered,
-        same(first(&out[..], lent.out), first(text, lent.out)),
+        same(first(&out[..], lent.out), first(before, lent.out)),
         OUTPUT,
         1,
     );
@@ -85,7 +88,8 @@ fn refused(c: Trial, text: &[u8], out: &mut [u8]) -> Verdict {
 }
 
 pub fn case() -> Verdict {
-    let text = long();
-    let mut out = long();
-    refused(read_trial(), &text, &mut out)
+    let text = long_text();
+    let before = long_out();
+    let mut out = long_out();
+    refused(read_trial(), &text, &before, &mut out)
 }

@@ -1,4 +1,4 @@
--- Document 01's limits, each once, and the largest counts within them.
+-- The limits, each once: document 01's for associated data, document 02's, request (vi), for text; and the largest counts within them.
 -- Assumes nothing.
 use mathlib.Core.Path.{_≡_, refl}
 use mathlib.Core.Bool.{Bool, true, false}
@@ -71,6 +71,6 @@ total-most i b a m ha hm =
     by-scheme (λ s. allCount s b a m ≤ mostRounds) (omega (arith, spook-most b a m ha hm))
     (λ j. omega (arith, all-count (paramsOf j) b a m, both-most j a m ha hm)) i
 
-pub largest : allCount (schemeOf 2) true mostAssoc mostText ≡ mostRounds
+pub largest : (schemeOf 2 .frontCount false mostAssoc mostText ≡ mostVerify) × (allCount (schemeOf 2) true mostAssoc mostText ≡ mostRounds)
 unfolding allCount schemeOf isSpook isapScheme frontCount backCount verifyRounds encryptRounds rekeyRounds blocks paramsOf isapA128
-largest = refl
+largest = (refl, refl)

@@ -25,7 +25,7 @@ pub use shapes::rounds_at;
 ghost use mathlib.Core.Path.{_≡_};
 ghost use Rattle.plan.specs.Planned.{Plans, unplanned};
 
-// Document 01's limits in bytes, which the definitions have as `mostAssoc` and `mostText`.
+// The limits in bytes, which the definitions have as `mostAssoc` and `mostText`.
 pub const MOST_ASSOC: u32 = 256;
 
 pub const MOST_TEXT: u32 = 1048576;

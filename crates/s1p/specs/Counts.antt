@@ -148,7 +148,8 @@ module _ (p : Cipher) (x : Input) where
         decides = subst (λ (n : ℕ). 0 < n) (sym front-rounds) (verify-some (length (x .assoc)) (length (x .text)));
       }
 
--- 24 + 12 (1 + u + v) and an opening's total: with neither data nor text, with a parcel's longest text, and at both limits
+-- 24 + 12 (1 + u + v) and an opening's total: with neither data nor text, with 256 bytes of data and the longest text that a parcel carries,
+-- and at both limits
 pub none : (verifyRounds 0 0 ≡ 36) × (secondRounds 0 0 ≡ 0)
 unfolding verifyRounds secondRounds unlessEmpty blocks
 none = (refl, refl)

@@ -71,7 +71,7 @@ fn opening(g: Given, tag: [u8; 16]) -> Job {
 // A record of a text of one byte more than the limit allows.
 fn forged(g: Given) -> Job {
     let mut job = sealing(g);
-    job.text = 1048577;
+    job.text = TEXT + 1;
     job
 }
 

@@ -11,7 +11,7 @@ pub const HAS_ENDED: u32 = 10;
 pub const OTHER_LENGTH: u32 = 11;
 pub const NOT_ENDED: u32 = 100;
 
-/// The longest associated data and the longest text of whole calls and jobs (document 02, request (vi)).
+/// The longest associated data (document 01), and the longest text of whole calls and jobs (document 02, request (vi)).
 pub const MOST_ASSOC: usize = 256;
 pub const MOST_TEXT: usize = 1_048_576;
 

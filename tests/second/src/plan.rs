@@ -1,6 +1,6 @@
 //! The planning program's requests and lines. Rounds are counted call by call along the algorithms, not by the formulas.
 
-use crate::calls::{MOST_ASSOC, MOST_TEXT};
+use crate::calls::MOST_ASSOC;
 use crate::instances::{instance, Instance, ALL};
 use crate::numbers::Numbers;
 use crate::record::SEALING;
@@ -86,6 +86,7 @@ pub fn rounds(number: u32, assoc: usize, text: usize) -> Rounds {
     Rounds { verify, sealing: all, opening: all }
 }
 
+/// Instance, and the lengths of associated data and text. Two bytes say no text length above the limit: each is planned.
 type Request = (u8, u16, u16);
 
 fn line(request: Request) -> String {
@@ -94,8 +95,6 @@ fn line(request: Request) -> String {
         "refused 1".to_string()
     } else if a > MOST_ASSOC {
         "refused 4".to_string()
-    } else if m > MOST_TEXT {
-        "refused 5".to_string()
     } else {
         let rounds = rounds(number as u32, a, m);
         format!("{} {}", rounds.verify, rounds.opening)
@@ -103,8 +102,8 @@ fn line(request: Request) -> String {
     format!("{number} {a} {m} {answer}\n")
 }
 
-/// The ten cases of document 01, each refusal, alone and before a later one, some more, Spook around its blocks, and the longest texts
-/// that a request can have.
+/// The ten cases of document 01, each refusal, alone and both at once, some more, Spook around its blocks, and the longest texts that a
+/// request can have.
 const ROWS: [Request; 44] = [
     (1, 0, 0),
     (1, 0, 7),
@@ -155,10 +154,10 @@ const ROWS: [Request; 44] = [
 /// After the rows, a request of which one byte is missing.
 const CUT: [u8; 4] = [2, 0, 0, 0];
 
-/// The longest text that a request's two bytes can say; every text length is planned.
+/// The longest text that a request can have.
 const LONGEST: u16 = u16::MAX;
 
-/// Lengths near multiples of each block length, at the largest and beyond it, and any.
+/// Lengths near multiples of each block length, at the largest and, of associated data, beyond it, and any.
 fn many() -> Vec<Request> {
     let mut numbers = Numbers::new(16);
     let mut length = |most: u64| -> u16 {

@@ -71,7 +71,8 @@ fn damage(numbers: &mut Numbers, number: u32, assoc: usize, text: usize) -> Dama
     Damage { what, at, bits }
 }
 
-/// Every text up to 256 bytes and every longer one near a block's multiple; associated data in turn near a multiple and of any length.
+/// Every text up to 256 bytes, and up to the longest every one near a block's multiple; associated data in turn near a multiple and of any
+/// length.
 fn lengths(numbers: &mut Numbers, number: u32) -> Vec<(usize, usize)> {
     let edges: Vec<usize> = (0..=MOST_ASSOC).filter(|length| near_a_block(number, *length, MOST_ASSOC)).collect();
     let texts = (0..=LONGEST).filter(|text| *text <= SHOWN_WHOLE || near_a_block(number, *text, LONGEST));

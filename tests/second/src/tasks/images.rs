@@ -6,7 +6,7 @@ use crate::calls::{number_of, slice, MOST_ASSOC, MOST_TEXT};
 use crate::filling::checksum;
 use crate::paper::{ended, noted, Given, Noted};
 use crate::plan::rounds;
-use crate::record::{Record, OPENING, SEALING};
+use crate::record::{Record, OPENING, SEALING, WELL, WRONG_TAG};
 
 /// After the messages' own.
 const INDEX: u64 = 5;
@@ -49,9 +49,14 @@ fn sealed(message: &Message) -> (String, Noted) {
     (line("part", given, turns, &report, &part) + &to_the_end("rest", given, done, &whole), whole)
 }
 
-/// An opening's line.
-fn opened(job: &str, received: &Given, tag: [u8; 16], before: &[u8]) -> String {
-    to_the_end(job, received, 0, &ended(received, OPENING, tag, before))
+/// The line of an opening, which must come to this ending and leave this output.
+fn opened(job: &str, received: &Given, tag: [u8; 16], before: &[u8], ending: u32, out: &[u8]) -> String {
+    let left = ended(received, OPENING, tag, before);
+    let planned = rounds(received.instance, MOST_ASSOC, MOST_TEXT);
+    let lasts = if ending == WELL { planned.opening } else { planned.verify };
+    assert!(left.record.ending == ending && left.out == out, "an opening accepts exactly the right tag");
+    assert!(left.record.done as usize == lasts, "all its rounds are done");
+    to_the_end(job, received, 0, &left)
 }
 
 /// A record of a text of one byte more, which cannot stand.
@@ -69,6 +74,8 @@ pub fn of_instance(instance: u32) -> String {
     let received = Given { text: whole.out, ..message.given.clone() };
     let (right, mut wrong) = (whole.record.tag, whole.record.tag);
     wrong[15] ^= 1;
-    let openings = [("open", right), ("wrong", wrong)].map(|(job, tag)| opened(job, &received, tag, &message.before));
-    lines + &openings.concat() + &forged(&message)
+    let before = &message.before;
+    let open = opened("open", &received, right, before, WELL, &message.given.text);
+    let refused = opened("wrong", &received, wrong, before, WRONG_TAG, before);
+    [lines, open, refused, forged(&message)].concat()
 }
