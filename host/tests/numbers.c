@@ -153,6 +153,14 @@ static void spook_rounds(void)
         rounds_of(5, table[i][0], table[i][1], table[i][2], table[i][2], table[i][3]);
 }
 
+typedef void has_rounds(uint32_t instance, uint32_t assoc, uint32_t text, uint32_t verify, uint32_t sealing, uint32_t opening);
+
+static void each_row(has_rounds *has, const uint32_t table[][6], size_t rows)
+{
+    for (size_t i = 0; i < rows; i++)
+        has(table[i][0], table[i][1], table[i][2], table[i][3], table[i][4], table[i][5]);
+}
+
 /* Longer texts than the documents' tables have, by their formulas: instance, lengths, verification, sealing, opening. */
 static void long_texts(void)
 {
@@ -165,12 +173,11 @@ static void long_texts(void)
         {5, 0, 4097, 1584, 1584, 3144},
         {5, 0, 65537, 24624, 24624, 49224},
     };
-    for (size_t i = 0; i < sizeof table / sizeof table[0]; i++)
-        rounds_of(table[i][0], table[i][1], table[i][2], table[i][3], table[i][4], table[i][5]);
+    each_row(rounds_of, table, sizeof table / sizeof table[0]);
 }
 
 /* The same at the limit, or as near below it as makes another number of blocks. */
-static void images(void (*have_rounds)(uint32_t, uint32_t, uint32_t, uint32_t, uint32_t, uint32_t))
+static void images(has_rounds *has)
 {
     static const uint32_t table[][6] = {
         {1, 0, 1048575, 1573051, 2359634, 2359634},
@@ -182,8 +189,7 @@ static void images(void (*have_rounds)(uint32_t, uint32_t, uint32_t, uint32_t, u
         {5, 0, 1048544, 393240, 393240, 786456},
         {5, 256, 1048576, 393348, 393348, 786672},
     };
-    for (size_t i = 0; i < sizeof table / sizeof table[0]; i++)
-        have_rounds(table[i][0], table[i][1], table[i][2], table[i][3], table[i][4], table[i][5]);
+    each_row(has, table, sizeof table / sizeof table[0]);
 }
 
 static void plans_refused(void)
