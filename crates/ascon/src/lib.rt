@@ -1,6 +1,8 @@
 // Ascon-p: the state in five words of 64 bits, a round on all 64 columns at once, and a run of rounds on the state's bytes.
 // Internal: the library above calls it, and meets each `requires`; a host does not see it.
 // What a reader must believe is specs/Permutation.antt, where the S-box is the table, applied to one column after the other.
+#![tactic(auto)]
+
 ghost use Rattle.std.specs.Prelude.{◌≡◌, [], ◌∷◌, ◌++◌, ◌+◌, ◌%◌, ◌≤◌, ◌<◌, get_or, length, take, drop};
 ghost use Rattle.bits.specs.BigEndian.{be_bytes, from_be};
 ghost use Rattle.bits.specs.Rotate.{rotr};

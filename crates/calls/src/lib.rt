@@ -3,6 +3,8 @@
 // Where Spook's code has a call for a sealing and one for each walk of an opening (whose second begins with part 5), it is for the
 // compiler: what is called in one place it takes into its caller, and there it takes the buffers of ISAP's calls apart into bytes along
 // with Spook's.
+#![tactic(auto)]
+
 mod of_isap;
 
 ghost use Rattle.std.specs.Prelude.{◌≡◌, true, ◌<◌, length};

@@ -1,5 +1,7 @@
 // What the programs share that are held to the second program (tests/second): the numbers and strings of its case files, what stands in
 // buffers before a case, what a case shows, and how many cases there were.
+#![tactic(auto)]
+
 pub mod filling;
 pub mod reading;
 pub mod strings;

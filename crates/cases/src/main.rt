@@ -1,5 +1,7 @@
 // Runs the cases of document 01, and of document 02 the empty heartbeats and texts around the limit, over the library's calls and prints
 // what they answer. Byte strings are compared here, one buffer with another; the file stdout holds the documents' numbers.
+#![tactic(auto)]
+
 mod heartbeats;
 
 ghost use Rattle.std.specs.Prelude.{◌≤◌};

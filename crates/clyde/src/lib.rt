@@ -2,6 +2,8 @@
 // Internal: the library above calls it, and meets each `requires`; a host does not see it.
 // What a reader must believe is specs/Components.antt and specs/Clyde.antt, where the S-box is the table, applied to one column after the
 // other, and the L-box two circulant matrices.
+#![tactic(auto)]
+
 mod bytes;
 
 ghost use Rattle.std.specs.Prelude.{◌≡◌, ◌++◌, ◌+◌, ◌≤◌, ◌<◌, length, take, drop};

@@ -1,6 +1,8 @@
 // Runs the cases of its input, which the second program (tests/second/src/cases) wrote, over the library's calls, and compares all that
 // they answer and leave: numbers, rounds, outputs, tags, whole records. It prints how many cases of each kind there were and how many
 // differ, and names the first that do.
+#![tactic(auto)]
+
 mod beginning;
 mod calls;
 mod jobs;

@@ -1,4 +1,6 @@
 // Sealing for a station, by ISAP or by Spook: jobs begun and sliced by budgets of rounds, and whole calls.
+#![tactic(auto)]
+
 mod beginnings;
 mod exports;
 mod further;

@@ -1,6 +1,8 @@
 // Keccak-p[400]: the state in five planes of five lanes of 16 bits, a round on it, and a run of rounds on the state's bytes.
 // Internal: the library above calls it, and meets each `requires`; a host does not see it.
 // What a reader must believe is specs/Fips202.antt, where each step mapping is defined bit by bit.
+#![tactic(auto)]
+
 mod bytes;
 mod chi;
 mod iota;

@@ -1,6 +1,8 @@
 // Runs every case of a file of answers, known ones or the second program's: sealing, opening, and opening with a wrong tag, each by a whole
 // call and in slices of changing budgets. Prints a line for each difference, and a summary. It is a library so that there can be a program
 // for each file.
+#![tactic(auto)]
+
 mod lines;
 mod reading;
 mod saying;

@@ -1,4 +1,6 @@
 // The known answers of instance 2, ISAP-A-128.
+#![tactic(auto)]
+
 fn main() {
     known::run(2);
 }

@@ -1,5 +1,7 @@
 // The library's side of the benchmark (bench/run): does the requests of its input and prints a line for each, with a checksum of what the
 // last repetition left. The baseline (bench/baseline) answers the same requests with the same lines; the file stdout holds what it says.
+#![tactic(auto)]
+
 mod jobs;
 mod requests;
 

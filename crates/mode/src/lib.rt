@@ -1,2 +1,3 @@
 // ISAP as the paper has it, ISAP as a row of calls, and that the two are one: definitions and theorems over any parameters.
 // The crate is its specs/; it has no function.
+#![tactic(auto)]

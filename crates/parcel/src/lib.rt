@@ -1,5 +1,7 @@
 // The parcel on the air: mark, instance, station, counter and text length, then ciphertext and tag, in one row of bytes. It is built,
 // read, taken apart and opened here, by isap's whole calls.
+#![tactic(auto)]
+
 mod building;
 mod exports;
 mod layout;

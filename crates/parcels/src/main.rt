@@ -1,6 +1,8 @@
 // Runs the cases of its input, which the second program (tests/second/src/parcels) wrote, over the calls for parcels, and compares all
 // that they answer and leave: numbers, rounds, counters, fields, parts of the buffer, outputs. It prints how many cases of each kind there
 // were and how many differ, and names the first that do.
+#![tactic(auto)]
+
 mod building;
 mod received;
 mod reports;

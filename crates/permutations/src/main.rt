@@ -2,6 +2,8 @@
 // come back as it was. A case has 98 bytes: a state (66), then a key (16) and a tweak (16), which Clyde-128 alone looks at. Ascon-p and
 // Keccak-p[400] go through the round counts that the instances use; Shadow-512, Clyde-128 and its inverse, whose rounds count in its own
 // order, through runs of a call's rounds. The file stdout holds what the second program (tests/second) computes on the same cases.
+#![tactic(auto)]
+
 ghost use Rattle.std.specs.Prelude.{◌+◌, ◌≤◌};
 
 use libc::{STDIN_FILENO, STDOUT_FILENO};

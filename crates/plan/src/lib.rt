@@ -1,5 +1,7 @@
 // Counting: the rounds a job takes, its parts, and where it stands after n rounds, by the numbers of its instance.
 // `plan` is public and has no `requires`. The others are internal: the library meets what they require, the limits of document 01.
+#![tactic(auto)]
+
 mod kinds;
 mod moves;
 mod numbers;

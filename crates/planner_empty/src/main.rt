@@ -1,4 +1,6 @@
 // The planning program on an empty input.
+#![tactic(auto)]
+
 fn main() {
     planning::run();
 }

@@ -1,4 +1,6 @@
 // The planning program on 10,000 requests in one input.
+#![tactic(auto)]
+
 fn main() {
     planning::run();
 }

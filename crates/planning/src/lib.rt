@@ -1,6 +1,8 @@
 // The planning program: reads five-byte requests (instance, the length of the associated data and of the text, each two bytes, the
 // first most significant) until its input ends, and prints a line for each. What a line says is proved (`lines`); this part only reads
 // and writes. It is a library so that several programs can be run on inputs of their own.
+#![tactic(auto)]
+
 mod lines;
 
 use libc::{STDIN_FILENO, STDOUT_FILENO};

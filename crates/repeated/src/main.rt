@@ -1,5 +1,7 @@
 // Builds parcels with a counter that is used twice, then with the one that was handed back, and prints them: the worked example of
 // docs/COUNTERS.md, whose lines are the second program's (tests/second).
+#![tactic(auto)]
+
 use case_file::strings::first;
 use libc::STDOUT_FILENO;
 

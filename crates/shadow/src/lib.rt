@@ -1,6 +1,8 @@
 // Shadow-512: the state in four bundles of four rows of 32 bits, a round on it, and a run of rounds on the state's bytes.
 // Internal: the library above calls it, and meets each `requires`; a host does not see it.
 // What a reader must believe is specs/Shadow.antt, where the diffusion layer is its matrix; S-box, L-box and constants are those of clyde.
+#![tactic(auto)]
+
 ghost use Rattle.std.specs.Prelude.{◌≡◌, ◌++◌, ◌+◌, ◌≤◌, ◌<◌, length, take, drop};
 ghost use Rattle.bits.specs.Run.{rounds as Rounds, run as Run};
 ghost use Rattle.bits.specs.Xors.{xors};

@@ -1,6 +1,8 @@
 // What goes with the first and the last round of a call, on the bytes of a job: the state that the sponge works on, the session bytes,
 // the output and the tag. Internal: the library above calls it, and meets each `requires`.
 // No branch and no index depends on key, nonce, state, session or text bytes.
+#![tactic(auto)]
+
 mod absorbing;
 
 ghost use Rattle.std.specs.Prelude.{◌≡◌, ◌++◌, ◌+◌, ◌-◌, ◌*◌, ◌/◌, ◌≤◌, ◌<◌, eqb, length, take, drop, replicate};

@@ -2,6 +2,8 @@
 // in one go, and the decision. Parts are numbered in the direction's order: seed, start, data, text and closing call, then an opening's
 // second walk. Internal: the library above calls it, and meets each `requires`.
 // No branch and no index depends on key, nonce, state, session or text bytes.
+#![tactic(auto)]
+
 mod enters;
 mod in_words;
 mod leaves;

@@ -1,4 +1,6 @@
 // For a station's host task, written in Rattle: a job whose record stays at its place in the task's memory.
+#![tactic(auto)]
+
 ghost use Rattle.instances.specs.Schemes.{scheme_of};
 ghost use Rattle.station.specs.Statements.{KeepsSlice};
 

@@ -1,5 +1,7 @@
 // Byte strings put into a state and taken from it, whatever the algorithm. Internal: the code of the calls uses it, and meets each
 // `requires`. No branch and no index depends on what the bytes are.
+#![tactic(auto)]
+
 ghost use Rattle.std.specs.Prelude.{◌≡◌, ◌+◌, ◌*◌, ◌≤◌, min, length, take};
 ghost use Rattle.bits.specs.Put.{put_at};
 ghost use Rattle.bits.specs.Xors.{xors};

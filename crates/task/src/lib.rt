@@ -1,4 +1,6 @@
 // A host task that keeps the record of one job in its own memory and serves the sampler after each slice of it.
+#![tactic(auto)]
+
 ghost use Rattle.std.specs.Prelude.{◌≡◌, ◌+◌, ◌-◌, ◌<◌, eqb, ltb};
 ghost use Rattle.bits.specs.Pick.{pick};
 ghost use Rattle.instances.specs.Schemes.{scheme_of};

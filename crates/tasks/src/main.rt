@@ -1,6 +1,8 @@
 // Runs the host task on jobs of every instance and prints a line for each run: the case, the number of the last slice, how often the
 // sampler was served, the most rounds that it waited, the rounds done, the record's checksum, and the output, of an image its checksum. The
 // second program (tests/second/src/tasks.rs) says what the lines must be.
+#![tactic(auto)]
+
 mod images;
 mod lines;
 mod messages;

@@ -1,0 +1,15 @@
+-- `keccak::run` meets its contract. The loop's invariant: after k turns the lanes stand for the bytes after the first k rounds, and the
+-- register for the round index that is next. Each turn's steps on lanes are a round on bits, and so on bytes.
+-- Assumes nothing.
+use Rattle.std.proofs.Common.{◌+◌, ◌-◌, ◌≡◌, ◌≤◌}
+use Rattle.bits.specs.Run.{rounds}
+use Rattle.keccak.specs.Ahead.{ahead}
+use Rattle.keccak.specs.Fips202.{keccak_round}
+use Rattle.keccak.specs.Lanes.{bytes_of}
+use Rattle.keccak.proofs.run.Given as goal
+
+abbrev pub invariant-loop-k : goal.invariant-loop-k
+invariant-loop-k l = (l.k ≤ l.count) × (bytes_of l.s ≡ rounds keccak_round l.from l.k (bytes_of l.initial.s)) × (l.w ≡ ahead (l.from + l.k))
+
+abbrev pub decreases-loop-k : goal.decreases-loop-k
+decreases-loop-k l = l.count - l.k
