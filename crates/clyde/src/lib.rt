@@ -14,7 +14,7 @@ ghost use Rattle.clyde.specs.Components.{add, s_layer, s_inverse, lbox, lbox_inv
 ghost use Rattle.clyde.specs.Clyde.{rows_of, bytes_of, TK, round as roundOf, round_inverse, first as first_of, second as second_of, clyde_round, clyde_round_inverse};
 ghost use Rattle.clyde.specs.OnBytes.{round_by, turn_by};
 
-#[derive(Drop)]
+#[derive(Clone, Copy)]
 pub struct Rows {
     pub x0: u32,
     pub x1: u32,
@@ -22,7 +22,7 @@ pub struct Rows {
     pub x3: u32,
 }
 
-#[derive(Drop)]
+#[derive(Clone, Copy)]
 pub struct Pair {
     pub a: u32,
     pub b: u32,

@@ -17,7 +17,7 @@ pub use slices::slice;
 pub use whole::{open, seal};
 
 // A job's record. Plain data: it is handed in by value and handed back.
-#[derive(Drop)]
+#[derive(Clone, Copy)]
 pub struct Job {
     pub instance: u32,
     // 1 sealing, 2 opening
@@ -38,7 +38,7 @@ pub struct Job {
 }
 
 // What a beginning answers: document 01's number, the rounds it did, which are none, and the record.
-#[derive(Drop)]
+#[derive(Clone, Copy)]
 pub struct Begun {
     pub number: u32,
     pub rounds: u32,
@@ -46,7 +46,7 @@ pub struct Begun {
 }
 
 // What a slice answers: document 01's number, the rounds it did itself, and the record.
-#[derive(Drop)]
+#[derive(Clone, Copy)]
 pub struct Sliced {
     pub number: u32,
     pub rounds: u32,
@@ -54,7 +54,7 @@ pub struct Sliced {
 }
 
 // What a whole call answers: document 01's number, and the rounds done.
-#[derive(Drop)]
+#[derive(Clone, Copy)]
 pub struct Answer {
     pub number: u32,
     pub rounds: u32,

@@ -17,7 +17,7 @@ pub use opening::open;
 pub use reader::{cipher, fields_of, number_of, read, tag};
 
 // What a parcel's header says, without the mark.
-#[derive(Drop)]
+#[derive(Clone, Copy)]
 pub struct Fields {
     pub instance: u32,
     pub station: u16,
@@ -27,7 +27,7 @@ pub struct Fields {
 }
 
 // What stands at the start of a buffer.
-#[derive(Drop)]
+#[derive(Clone, Copy)]
 pub enum Reading {
     // a whole parcel
     Whole(Fields),
@@ -36,7 +36,7 @@ pub enum Reading {
 }
 
 // What building answers: the number, the rounds done, and the counter to keep, which is the parcel's own, or the one given if refused.
-#[derive(Drop)]
+#[derive(Clone, Copy)]
 pub struct Built {
     pub number: u32,
     pub rounds: u32,

@@ -27,7 +27,7 @@ pub const MOST_TEXT: u32 = 1048576;
 
 // What a job takes: the rounds of a verification, of a sealing, and of an opening with a right tag. Refused with the number of document 01,
 // 1, 4 or 5.
-#[derive(Drop)]
+#[derive(Clone, Copy)]
 pub struct Planned {
     pub number: u32,
     pub verify: u32,

@@ -7,7 +7,7 @@ ghost use Rattle.instances.specs.Limits.{most_assoc, most_text, most_verify};
 ghost use Rattle.plan.specs.Numbers.{OfInstance, numbers};
 
 // The numbers of an instance: bytes of a state and of a block, rounds of the calls pH, pB, pE and pK, and rounds of the permutation.
-#[derive(Drop)]
+#[derive(Clone, Copy)]
 pub struct Numbers {
     pub n: u32,
     pub b: u32,

@@ -8,7 +8,7 @@ ghost use Rattle.plan.specs.Planned.{placed};
 
 use crate::shapes::{SPOOK, count_at, is_spook, parts_of, rounds_at};
 
-#[derive(Drop)]
+#[derive(Clone, Copy)]
 pub struct Place {
     pub part: u32,
     pub call: u32,

@@ -12,7 +12,7 @@ ghost use Rattle.shadow.specs.OnBytes.{bundle_bytes, shadow_turn};
 
 use clyde::Rows;
 
-#[derive(Drop)]
+#[derive(Clone, Copy)]
 pub struct Bundles {
     pub b0: Rows,
     pub b1: Rows,

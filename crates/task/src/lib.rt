@@ -9,7 +9,7 @@ ghost use Rattle.task.specs.Turns.{served_of, RunsTask};
 use isap::{Answer, Job};
 
 // A turn is a slice of the job, and then the sampler.
-#[derive(Drop)]
+#[derive(Clone, Copy)]
 pub struct Turns {
     // that the job may still have
     pub left: u32,
@@ -22,7 +22,7 @@ pub struct Turns {
 }
 
 // What the task hands back: its turns, and the record after them.
-#[derive(Drop)]
+#[derive(Clone, Copy)]
 pub struct Kept {
     pub turns: Turns,
     pub job: Job,
