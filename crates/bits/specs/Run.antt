@@ -93,7 +93,7 @@ module _ {n : ℕ} {r : ℕ → List ℕ → List ℕ} (keeps : Keeps n r) where
   bytes-rounds from zero s l h = h
   bytes-rounds from (suc k) s l h = keeps.bytes (from + k) (rounds r from k s) (length-rounds from k s l) (bytes-rounds from k s l h)
 
-  length-first : (s : List ℕ) → n ≤ length s → length (take n s) ≡ n
+  pub length-first : (s : List ℕ) → n ≤ length s → length (take n s) ≡ n
   length-first s l = length-take n s ∙ min-eq_left l
 
   -- one round on a buffer
@@ -106,30 +106,3 @@ module _ {n : ℕ} {r : ℕ → List ℕ → List ℕ} (keeps : Keeps n r) where
   pub bytes_once : (i : ℕ) (s : List ℕ) → n ≤ length s → Bytes s → Bytes (front n (r i) s)
   unfolding front
   bytes_once i s l h = bytes-append (keeps.bytes i (take n s) (length-first s l) (bytes_take n h)) (bytes_drop n h)
-
-  -- the rounds are those of the first n bytes; the others stay
-  pub run-front : (from k : ℕ) (s : List ℕ) → n ≤ length s → run n r from k s ≡ rounds r from k (take n s) ++ drop n s
-  unfolding run front rounds turns
-  run-front from zero s l = sym (take-append-drop n s)
-  run-front from (suc k) s l =
-      let p : List ℕ = rounds r from k (take n s) in
-      let e : length p ≡ n = length-rounds from k (take n s) (length-first s l) in
-      let t : List ℕ = drop n s in
-      ap (front n (r (from + k))) (run-front from k s l)
-      ∙ ap₂ (λ (u v : List ℕ). r (from + k) u ++ v) (take_at p t n e) (drop_at p t n e)
-
-  pub length_run : (from k : ℕ) (s : List ℕ) → n ≤ length s → length (run n r from k s) ≡ length s
-  length_run from k s l =
-      ap length (run-front from k s l) ∙ length-append (rounds r from k (take n s)) (drop n s)
-      ∙ ap₂ (λ (x y : ℕ). x + y) (length-rounds from k (take n s) (length-first s l)) (length-drop n s) ∙ add-sub_of_le l
-
-  pub bytes_run : (from k : ℕ) (s : List ℕ) → n ≤ length s → Bytes s → Bytes (run n r from k s)
-  bytes_run from k s l h =
-      subst Bytes (sym (run-front from k s l))
-      (bytes-append (bytes-rounds from k (take n s) (length-first s l) (bytes_take n h)) (bytes_drop n h))
-
-  -- what an engine does that holds the state in words: the words of the first n bytes are loaded, run, and stored
-  pub run_words : (from k : ℕ) (s loaded ran out : List ℕ) → n ≤ length s
-      → loaded ≡ take n s → ran ≡ rounds r from k loaded → out ≡ ran ++ drop n s → out ≡ run n r from k s
-  run_words from k s loaded ran out l p q e =
-      e ∙ ap (λ (u : List ℕ). u ++ drop n s) (q ∙ ap (rounds r from k) p) ∙ sym (run-front from k s l)

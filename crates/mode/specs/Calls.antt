@@ -9,7 +9,8 @@ use native.Mathlib.Omega.{arith}
 use Rattle.std.proofs.Math.ListN.{length, take, drop}
 use Rattle.std.proofs.lemmas.List.{length-replicate, take-append-le}
 use Rattle.std.proofs.Math.Seq.{length-take-le}
-use Rattle.bits.specs.Run.{turns, rounds, front, run, run-front}
+use Rattle.bits.specs.Run.{turns, rounds, front, run}
+use Rattle.bits.proofs.Run.{run-front}
 use Rattle.bits.specs.Xors.{xors, xors-front}
 use Rattle.stopping.specs.Stopped.{whole}
 use Rattle.stopping.specs.Parts.{call_of}

@@ -17,7 +17,8 @@ use Rattle.bits.specs.StringLaws.{length-xor_into, length-xor_at, same_refl}
 use Rattle.mode.specs.StringLaws.{length-xor_bit}
 use Rattle.mode.specs.Params.{Params, LawfulParams, perm, iv}
 use Rattle.scheme.specs.Machine.{Opened.plaintext, Opened.refused}
-use Rattle.scheme.specs.Squeezing.{squeezed, blocks_of, encrypted, blocks_hold, Squeezes, encrypted_long, twice, common, first_part}
+use Rattle.scheme.specs.Squeezing.{squeezed, blocks_of, encrypted, blocks_hold, Squeezes}
+use Rattle.scheme.proofs.Squeezing.{encrypted_long, twice, common, first_part}
 use Rattle.mode.specs.Paper.{absorb_bits, rekeyed, rekey_mac, rekey_enc, blocks, squeeze, isap_enc, padded_blocks, absorb, hashed, finished, isap_mac, seal, unseal}
 
 module _ (p : Params) (l : LawfulParams p) where

@@ -13,7 +13,8 @@ use lib.Seq.{take_at, drop_at, length-take-le}
 use Rattle.bits.specs.Number.{value}
 use Rattle.bits.specs.Part.{length_part}
 use Rattle.bits.specs.Put.{put_at}
-use Rattle.bits.specs.Run.{rounds, run, Keeps, length-rounds, run-front}
+use Rattle.bits.specs.Run.{rounds, run, Keeps, length-rounds}
+use Rattle.bits.proofs.Run.{run-front}
 use Rattle.bits.specs.Xors.{xors, length-xors, xors-front, xors_none}
 use Rattle.bits.specs.Strings.{xor_into, xor_at, block}
 use Rattle.mode.specs.Strings.{bit_at, xor_bit}

@@ -1,7 +1,7 @@
 -- `ascon::rounds` meets its contract: words are loaded, run, and stored (`bits`, `run_words`).
 -- Assumes nothing.
 use Rattle.std.proofs.Common.{arith, length, ◌≤◌}
-use Rattle.bits.specs.Run.{run_words}
+use Rattle.bits.proofs.Run.{run_words}
 use Rattle.ascon.specs.Permutation.{bytes_of}
 use Rattle.ascon.specs.Laws.{ascon_keeps}
 use Rattle.ascon.proofs.rounds.Goals as goal

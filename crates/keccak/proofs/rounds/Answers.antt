@@ -1,6 +1,6 @@
 -- `keccak::rounds` meets its contract: the lanes of the first 50 bytes are loaded, run and put back.
 -- Assumes nothing.
-use Rattle.bits.specs.Run.{run_words}
+use Rattle.bits.proofs.Run.{run_words}
 use Rattle.keccak.specs.Laws.{keccak_keeps}
 use Rattle.keccak.proofs.rounds.Goals as goal
 

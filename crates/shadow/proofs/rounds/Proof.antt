@@ -4,7 +4,7 @@ use Prim.Native.Nat.{◌≤◌}
 use native.Mathlib.Omega.{arith}
 use lib.ListN.{length}
 use borrow.Author.Rules.{rules}
-use Rattle.bits.specs.Run.{run_words}
+use Rattle.bits.proofs.Run.{run_words}
 use Rattle.shadow.specs.OnBytes.{bundle_bytes, shadow-keeps}
 use Rattle.shadow.proofs.rounds.Statement.{statement}
 use Rattle.shadow.proofs.rounds.Tie as tie
