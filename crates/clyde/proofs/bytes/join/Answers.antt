@@ -1,19 +1,11 @@
 -- `clyde::bytes::join` meets its contract: no shift loses a digit, and bytes or'ed at their places are the number that they are, read from
 -- the last one on (`bits`, `or_bytes_lem`).
 -- Assumes nothing.
-use mathlib.Core.Path.{◌≡◌, sym, ◌∙◌}
-use mathlib.Core.List.{[], ◌∷◌}
-use Prim.Native.Nat.{ℕ, ◌+◌, ◌*◌, ◌%◌, ◌^◌, ◌≤◌, ◌<◌}
-use native.Mathlib.Nat.{mul-one}
-use native.Mathlib.Omega.{arith}
-use lib.Dec.{lit≤}
-use lib.Pow.{shl_exact}
-use lib.Bits.{bit_or}
+use Rattle.std.proofs.Common.{[], arith, bit_or, lit≤, mul-one, shl_exact, sym, ℕ, ◌%◌, ◌*◌, ◌+◌, ◌<◌, ◌^◌, ◌∙◌, ◌∷◌, ◌≡◌, ◌≤◌}
 use Rattle.bits.specs.Bytes.{cons_bytes, no_bytes}
 use Rattle.bits.specs.BigEndian.{from_be, or_bytes_lem}
 use Rattle.bits.specs.LittleEndian.{from_le}
-use Rattle.clyde.proofs.bytes.join.Statement.{statement}
-use Rattle.clyde.proofs.bytes.join.Tie as tie
+use Rattle.clyde.proofs.bytes.join.Goals as goal
 
 -- the same four bytes, read from either end
 reversed : (b0 b1 b2 b3 : ℕ) → from_be (b3 ∷ b2 ∷ b1 ∷ b0 ∷ []) ≡ from_le (b0 ∷ b1 ∷ b2 ∷ b3 ∷ [])
@@ -24,7 +16,7 @@ reversed b0 b1 b2 b3 = omega arith
 kept : {b : ℕ} (k : ℕ) → b < 256 → 8 + k ≤ 32 → b * 2 ^ k % 2 ^ 32 ≡ b * 2 ^ k
 kept k h l = shl_exact 8 k 32 h l
 
-returns : tie.Need-returns
+pub returns : goal.returns
 returns c =
     let a = c.args in
     let h = c.ranges in
@@ -35,6 +27,3 @@ returns c =
     (λ i. bit_or (bit_or (bit_or (p3 i) (p2 i)) (p1 i)) (p0 i))
     ∙ or_bytes_lem a.b3 (a.b2 ∷ a.b1 ∷ a.b0 ∷ []) (cons_bytes h.b2.fits (cons_bytes h.b1.fits (cons_bytes h.b0.fits no_bytes)))
     ∙ reversed a.b0 a.b1 a.b2 a.b3
-
-pub join_spec : {M : Type 1} → statement M
-join_spec = tie.close (tie.spec returns)

@@ -1,16 +1,9 @@
 -- `clyde::constant` meets its contract: the numbers hold the register's states of the twelve rounds, tested at each.
 -- Assumes nothing.
-use mathlib.Core.Path.{◌≡◌, refl}
-use mathlib.Core.Bool.{true}
-use Prim.Native.Nat.{ℕ, ◌/◌, ◌^◌}
-use lib.Dec.{eqb}
-use lib.Bits.{bit_and}
-use borrow.Author.Tests.{eqb-true}
-use borrow.Author.Rules.{rules}
+use Rattle.std.proofs.Common.{bit_and, eqb, eqb-true, refl, true, ℕ, ◌/◌, ◌^◌, ◌≡◌}
 use Rattle.bits.specs.Every.{every, every_at}
 use Rattle.clyde.specs.Components.{register_step, W}
-use Rattle.clyde.proofs.constant.Statement.{statement}
-use Rattle.clyde.proofs.constant.Tie as tie
+use Rattle.clyde.proofs.constant.Goals as goal
 
 -- digit i of a number
 abbrev bit_of : ℕ → ℕ → ℕ
@@ -32,7 +25,7 @@ test3 : every 12 (λ i. eqb (bit_of 0xac8 i) (W i).x3) ≡ true
 unfolding every register_step W
 test3 = refl
 
-returns : tie.Need-returns
+pub returns : goal.returns
 returns c =
     let r = c.args.r in
     let e0 = eqb-true (bit_of 0x591 r) (W r).x0 (every_at 12 (λ i. eqb (bit_of 0x591 i) (W i).x0) test0 r c.requires) in
@@ -40,13 +33,3 @@ returns c =
     let e2 = eqb-true (bit_of 0xd64 r) (W r).x2 (every_at 12 (λ i. eqb (bit_of 0xd64 i) (W i).x2) test2 r c.requires) in
     let e3 = eqb-true (bit_of 0xac8 r) (W r).x3 (every_at 12 (λ i. eqb (bit_of 0xac8 i) (W i).x3) test3 r c.requires) in
     λ i. record { x0 = e0 i; x1 = e1 i; x2 = e2 i; x3 = e3 i }
-
-pub constant_spec : {M : Type 1} → statement M
-constant_spec =
-    tie.close
-    (tie.spec
-    (λ c. search rules)
-    (λ c. search rules)
-    (λ c. search rules)
-    (λ c. search rules)
-    returns)
