@@ -6,7 +6,8 @@ use mathlib.Core.List.{List, ◌++◌}
 use Prim.Native.Nat.{ℕ, ◌≤◌}
 use lib.ListN.{length, drop}
 use Rattle.bits.specs.Bytes.{Bytes, Buffer}
-use Rattle.bits.specs.Run.{rounds, run, run_words}
+use Rattle.bits.specs.Run.{rounds, run}
+use Rattle.bits.proofs.Run.{run_words}
 use Rattle.clyde.specs.declared.Rows.{Rows}
 use Rattle.clyde.specs.Clyde.{rows_of, bytes_of}
 use Rattle.clyde.specs.OnBytes.{round_by, turn_by, rows_of-fit, bytes_of-rows_of, keeps_by, bytes_by}
