@@ -1,2 +1,7 @@
 mod Along
 mod Runs
+pub mod Lbox
+pub mod Sbox
+pub mod Undone
+pub mod Theorems
+pub mod OnBytes

@@ -10,7 +10,8 @@ use Rattle.bits.specs.Run.{rounds, run}
 use Rattle.bits.proofs.Run.{run_words}
 use Rattle.clyde.specs.declared.Rows.{Rows}
 use Rattle.clyde.specs.Clyde.{rows_of, bytes_of}
-use Rattle.clyde.specs.OnBytes.{round_by, turn_by, rows_of-fit, bytes_of-rows_of, keeps_by, bytes_by}
+use Rattle.clyde.specs.OnBytes.{round_by, turn_by}
+use Rattle.clyde.proofs.OnBytes.{rows_of-fit, bytes_of-rows_of, keeps_by, bytes_by}
 
 pub stored : (back : Bool) (key tweak s : List ℕ) → Buffer 16 key → Buffer 16 tweak → 16 ≤ length s → Bytes s → (from count : ℕ)
     → {k t v w : Rows} {out : List ℕ} → k ≡ rows_of key → t ≡ rows_of tweak → v ≡ rows_of s

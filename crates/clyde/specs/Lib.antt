@@ -5,7 +5,5 @@ pub mod Clyde
 pub mod Constants
 pub mod Lbox
 pub mod Sbox
-pub mod Undone
 pub mod Rounds
 pub mod OnBytes
-pub mod Theorems

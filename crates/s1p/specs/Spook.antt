@@ -5,8 +5,9 @@ use Rattle.scheme.specs.Machine.{Buffer}
 use Rattle.scheme.specs.Scheme.{Scheme}
 use Rattle.scheme.specs.Lawful.{LawfulScheme}
 use Rattle.clyde.specs.Clyde.{clyde_bytes, clyde_bytes_inverse}
-use Rattle.clyde.specs.OnBytes.{clyde_turn, clyde_turn_back, clyde-keeps, clyde-back-keeps}
-use Rattle.clyde.specs.Theorems.{clyde-turns, clyde-turns-back, either_order_turns}
+use Rattle.clyde.specs.OnBytes.{clyde_turn, clyde_turn_back}
+use Rattle.clyde.proofs.OnBytes.{clyde-keeps, clyde-back-keeps}
+use Rattle.clyde.proofs.Theorems.{clyde-turns, clyde-turns-back, either_order_turns}
 use Rattle.shadow.specs.Shadow.{shadow}
 use Rattle.shadow.specs.OnBytes.{bundles_of, bundle_bytes, shadow_turn, shadow-keeps, shadow-turns}
 use Rattle.s1p.specs.Cipher.{Cipher, LawfulCipher, encrypt, decrypt, perm}

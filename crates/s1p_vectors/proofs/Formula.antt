@@ -8,8 +8,9 @@ use lib.Dec.{eqb}
 use Rattle.bits.specs.Pick.{pick}
 use Rattle.clyde.specs.declared.Rows.{Rows}
 use Rattle.clyde.specs.Components.{rows, s_layer, lbox, on_pairs, add, W}
-use Rattle.clyde.specs.Sbox.{s_layer-fit}
-use Rattle.clyde.specs.Lbox.{lbox_formula, lbox_formula_lem}
+use Rattle.clyde.proofs.Sbox.{s_layer-fit}
+use Rattle.clyde.specs.Lbox.{lbox_formula}
+use Rattle.clyde.proofs.Lbox.{lbox_formula_lem}
 use Rattle.clyde.specs.Clyde.{TK, round, first, second, clyde_round, rows_of, bytes_of}
 use Rattle.clyde.specs.OnBytes.{clyde_turn, clyde_turn_back}
 use Rattle.shadow.specs.Shadow.{each, sl_layer, d_layer, with_constant, layers, round as shadowRound}

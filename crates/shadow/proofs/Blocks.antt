@@ -12,7 +12,7 @@ use Rattle.bits.specs.Xors.{xors}
 use Rattle.clyde.specs.declared.Rows.{Rows}
 use Rattle.clyde.specs.Components.{add}
 use Rattle.clyde.specs.Clyde.{rows_of, bytes_of}
-use Rattle.clyde.specs.OnBytes.{bytes_of-rows_of}
+use Rattle.clyde.proofs.OnBytes.{bytes_of-rows_of}
 use Rattle.shadow.specs.declared.Bundles.{Bundles}
 use Rattle.shadow.specs.OnBytes.{bundle_bytes}
 

@@ -7,9 +7,9 @@ use Rattle.bits.specs.Number.{number_lt}
 use Rattle.bits.specs.Pick.{pick}
 use Rattle.clyde.specs.Components.{s_layer, lbox, W}
 use Rattle.clyde.specs.Constants.{W_bits}
-use Rattle.clyde.specs.Lbox.{lbox-fit}
+use Rattle.clyde.proofs.Lbox.{lbox-fit}
 use Rattle.clyde.specs.Sbox.{Fit}
-use Rattle.clyde.specs.Undone.{add_fit, on_pairs-fit}
+use Rattle.clyde.proofs.Undone.{add_fit, on_pairs-fit}
 use Rattle.shadow.specs.declared.Bundles.{Bundles}
 use Rattle.shadow.specs.Shadow.{each, sl_layer, d_bit, d_row, d_bundle, d_layer, shifted, with_constant, layers, round}
 

@@ -13,7 +13,8 @@ use Rattle.bits.specs.Part.{parts, parts-take}
 use Rattle.bits.specs.Run.{turns, rounds, Keeps}
 use Rattle.clyde.specs.declared.Rows.{Rows}
 use Rattle.clyde.specs.Clyde.{rows_of, bytes_of}
-use Rattle.clyde.specs.OnBytes.{row, B, row-bits, rows_are, rows_of-fit, rows_of-bytes_of, bytes_of-rows_of}
+use Rattle.clyde.specs.OnBytes.{row, B}
+use Rattle.clyde.proofs.OnBytes.{row-bits, rows_are, rows_of-fit, rows_of-bytes_of, bytes_of-rows_of}
 use Rattle.shadow.specs.declared.Bundles.{Bundles}
 use Rattle.shadow.specs.Shadow.{round, shadow, shadow-rounds}
 use Rattle.shadow.specs.Fits.{Fits, round-fits}

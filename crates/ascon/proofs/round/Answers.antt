@@ -2,7 +2,8 @@
 -- Assumes nothing.
 use Rattle.std.proofs.Common.{ap, arith, ◌∙◌, ◌≡◌}
 use Rattle.ascon.specs.Permutation.{p_s, p_l, p, bytes_of}
-use Rattle.ascon.specs.Laws.{Fit, round-bytes}
+use Rattle.ascon.specs.Laws.{Fit}
+use Rattle.ascon.proofs.Laws.{round-bytes}
 use Rattle.ascon.proofs.round.Goals as goal
 
 pub returns : goal.returns

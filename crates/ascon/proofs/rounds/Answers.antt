@@ -3,7 +3,7 @@
 use Rattle.std.proofs.Common.{arith, length, ◌≤◌}
 use Rattle.bits.proofs.Run.{run_words}
 use Rattle.ascon.specs.Permutation.{bytes_of}
-use Rattle.ascon.specs.Laws.{ascon_keeps}
+use Rattle.ascon.proofs.Laws.{ascon_keeps}
 use Rattle.ascon.proofs.rounds.Goals as goal
 
 pub returns : goal.returns

@@ -5,7 +5,7 @@ use Rattle.bits.specs.Bytes.{cons_bytes, bytes-zeros}
 use Rattle.bits.specs.BigEndian.{from_be}
 use Rattle.bits.specs.Xors.{xors-first}
 use Rattle.ascon.specs.Permutation.{bytes_of}
-use Rattle.ascon.specs.Laws.{length-bytes_of}
+use Rattle.ascon.proofs.Laws.{length-bytes_of}
 use Rattle.ascon.proofs.Blocks.{with_first, block_in_lem}
 use Rattle.ascon.proofs.with_first.Goals as goal
 

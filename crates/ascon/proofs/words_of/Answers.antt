@@ -2,7 +2,7 @@
 -- Assumes nothing.
 use Rattle.std.proofs.Common.{ap, ◌∙◌}
 use Rattle.ascon.specs.Permutation.{words_of, bytes_of}
-use Rattle.ascon.specs.Laws.{bytes_of-words_of}
+use Rattle.ascon.proofs.Laws.{bytes_of-words_of}
 use Rattle.ascon.proofs.words_of.Goals as goal
 
 pub returns : goal.returns

@@ -1,7 +1,8 @@
 -- `clyde::diffuse` meets its contract: the formulas are the matrices (`specs/Lbox.antt`).
 -- Assumes nothing.
 use Rattle.std.proofs.Common.{arith, ◌∙◌}
-use Rattle.clyde.specs.Lbox.{Fit2, lbox_formula, lbox_formula_lem}
+use Rattle.clyde.specs.Lbox.{Fit2, lbox_formula}
+use Rattle.clyde.proofs.Lbox.{lbox_formula_lem}
 use Rattle.clyde.proofs.Along.{mix}
 use Rattle.clyde.proofs.diffuse.Goals as goal
 

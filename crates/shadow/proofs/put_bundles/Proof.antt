@@ -4,7 +4,7 @@ use borrow.Author.Rules.{rules}
 use Rattle.bits.specs.LittleEndian.{le_bytes}
 use Rattle.bits.specs.Part.{written_none, written_more}
 use Rattle.clyde.specs.Clyde.{bytes_of}
-use Rattle.clyde.specs.OnBytes.{length-bytes_of}
+use Rattle.clyde.proofs.OnBytes.{length-bytes_of}
 use Rattle.shadow.specs.OnBytes.{bundle_bytes}
 use Rattle.shadow.proofs.put_bundles.Statement.{statement}
 use Rattle.shadow.proofs.put_bundles.Tie as tie

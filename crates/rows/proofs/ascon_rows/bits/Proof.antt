@@ -8,7 +8,7 @@ use lib.ListN.{length}
 use borrow.Author.Rules.{rules}
 use Rattle.bits.specs.Number.{value_lt}
 use Rattle.mode.specs.Strings.{bit_at}
-use Rattle.ascon.specs.Laws.{ascon_keeps}
+use Rattle.ascon.proofs.Laws.{ascon_keeps}
 use Rattle.ascon.specs.Permutation.{bytes_of}
 use Rattle.rows.specs.Fed.{bit_in}
 use Rattle.rows.proofs.Holding.{Holds, holds-start, holds_end, bit_more}

@@ -6,7 +6,7 @@ use native.Mathlib.Omega.{arith}
 use lib.Dec.{lit<, lit≤}
 use lib.ListN.{length}
 use borrow.Author.Rules.{rules}
-use Rattle.ascon.specs.Laws.{ascon_keeps}
+use Rattle.ascon.proofs.Laws.{ascon_keeps}
 use Rattle.ascon.specs.Permutation.{bytes_of}
 use Rattle.rows.specs.Fed.{block_in}
 use Rattle.rows.proofs.Holding.{Holds, holds-start, holds_end, block_more}

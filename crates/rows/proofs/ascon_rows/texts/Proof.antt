@@ -7,9 +7,8 @@ use lib.Dec.{lit≤}
 use lib.ListN.{length}
 use borrow.Author.Rules.{rules}
 use Rattle.bits.specs.Run.{run}
-use Rattle.ascon.specs.Permutation.{ascon_round}
-use Rattle.ascon.specs.Laws.{ascon_keeps}
-use Rattle.ascon.specs.Permutation.{bytes_of}
+use Rattle.ascon.specs.Permutation.{ascon_round, bytes_of}
+use Rattle.ascon.proofs.Laws.{ascon_keeps}
 use Rattle.rows.specs.Fed.{nothing_in, written_by}
 use Rattle.rows.proofs.Holding.{Holds, holds-start, holds_more, holds_end, writes_more}
 use Rattle.rows.proofs.ascon_rows.texts.Statement.{statement}

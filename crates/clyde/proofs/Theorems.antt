@@ -10,9 +10,10 @@ use Rattle.bits.specs.Run.{turns, rounds}
 use Rattle.clyde.specs.declared.Rows.{Rows}
 use Rattle.clyde.specs.Clyde.{clyde, clyde_inverse, rows_of, bytes_of, clyde_bytes, clyde_bytes_inverse}
 use Rattle.clyde.specs.Sbox.{Fit}
-use Rattle.clyde.specs.Undone.{clyde-fit, clyde_inverse-fit, clyde_undone, clyde_undoes}
+use Rattle.clyde.proofs.Undone.{clyde-fit, clyde_inverse-fit, clyde_undone, clyde_undoes}
 use Rattle.clyde.specs.Rounds.{clyde-rounds, clyde_inverse-rounds}
-use Rattle.clyde.specs.OnBytes.{clyde_turn, clyde_turn_back, rows_of-bytes_of, rows_are, block_fit, block_back, forward_bytes, backward_bytes}
+use Rattle.clyde.specs.OnBytes.{clyde_turn, clyde_turn_back}
+use Rattle.clyde.proofs.OnBytes.{rows_of-bytes_of, rows_are, block_fit, block_back, forward_bytes, backward_bytes}
 
 pub either_order : {k t s : Rows} → Fit k → Fit t → Fit s → (clyde_inverse k t (clyde k t s) ≡ s) × (clyde k t (clyde_inverse k t s) ≡ s)
 either_order {s = s} hk ht hs = (clyde_undone hk ht s hs, clyde_undoes hk ht s hs)
