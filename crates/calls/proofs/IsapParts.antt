@@ -21,9 +21,10 @@ use Rattle.scheme.specs.Calls.{part_in, shape_in, At, Rest, Inner, Enters, Turns
 use Rattle.mode.specs.Params.{Params}
 use Rattle.mode.specs.Parts.{sealing_course, opening_course, course}
 use Rattle.mode.specs.Instances.{params_of}
-use Rattle.mode.specs.Calls.{turns-run_from}
+use Rattle.mode.proofs.Calls.{turns-run_from}
 use Rattle.mode.specs.InstanceLaws.{lawful_instance}
-use Rattle.mode.specs.Isap.{isap_scheme, lawful_isap}
+use Rattle.mode.specs.Isap.{isap_scheme}
+use Rattle.mode.proofs.Isap.{lawful_isap}
 use Rattle.plan.specs.Kinds.{kind_of, shape_of, eleven_parts, shape_of_part, rounds_most}
 use Rattle.sponge.specs.Kinds.{part_of, CanEnter, Entered}
 use Rattle.sponge.specs.Leaves.{out_left, tag_left, shape_of_lem, turn_of, leave_of}

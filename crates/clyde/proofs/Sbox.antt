@@ -1,10 +1,10 @@
 -- The S-box: the formulas of document 004 on all columns at once are the table on each column, and S-box and inverse undo one another in
 -- either order. A proof goes along a formula (`bits`, `Word`), and what it gives in one column is compared at all 16 columns.
 -- Assumes nothing.
-use Rattle.std.specs.Prelude.{◌≡◌, Bool, true, ℕ, ◌+◌, ◌*◌}
+use Rattle.std.specs.Prelude.{◌≡◌, Bool, true, ◌&&◌, ℕ, ◌+◌, ◌*◌}
 use Rattle.std.proofs.Math.Path.{refl, ap}
 use Rattle.std.proofs.Common.{sym, ◌∙◌}
-use Rattle.bits.specs.Digit.{odd, bit}
+use Rattle.bits.specs.Digit.{odd, bit, ◌⊕◌}
 use Rattle.bits.specs.Number.{value}
 use Rattle.bits.specs.Word.{Digits, own, same_digits, xor-digits, and-digits}
 use Rattle.bits.specs.Every.{both}

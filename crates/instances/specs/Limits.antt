@@ -6,7 +6,7 @@ use Rattle.scheme.specs.Scheme.{all_count}
 use Rattle.mode.specs.Paper.{blocks}
 use Rattle.mode.specs.InstanceLaws.{by_instance}
 use Rattle.mode.specs.Instances.{isap_a128a, isap_a128, isap_k128a, isap_k128, params_of}
-use Rattle.mode.specs.CountLaws.{all_count_lem}
+use Rattle.mode.proofs.CountLaws.{all_count_lem}
 use Rattle.mode.specs.Counts.{rekey_rounds, verify_rounds, encrypt_rounds, front_count, back_count}
 use Rattle.mode.specs.Isap.{isap_scheme}
 use Rattle.s1p.specs.Paper as paper

@@ -8,9 +8,11 @@ use Rattle.scheme.specs.Scheme.{Scheme}
 use Rattle.scheme.specs.Lawful.{LawfulScheme}
 use Rattle.mode.specs.InstanceLaws.{by_instance, lawful_instance}
 use Rattle.mode.specs.Instances.{isap_a128a, isap_a128, isap_k128a, isap_k128, params_of}
-use Rattle.mode.specs.Isap.{isap_scheme, lawful_isap}
+use Rattle.mode.specs.Isap.{isap_scheme}
+use Rattle.mode.proofs.Isap.{lawful_isap}
 use Rattle.s1p.specs.Scheme.{s1p_scheme}
-use Rattle.s1p.specs.Spook.{spook_scheme, lawful-spook}
+use Rattle.s1p.specs.Spook.{spook_scheme}
+use Rattle.s1p.proofs.Spook.{lawful-spook}
 
 -- 1 to 4 are ISAP's, 5 is Spook
 unfoldable pub known : ℕ → Bool

@@ -1,3 +1,3 @@
 // ISAP as the paper has it, ISAP as a row of calls, and that the two are one: definitions and theorems over any parameters.
-// The crate is its specs/; it has no function.
+// The crate is its specs/ and proofs/; it has no function.
 #![tactic(auto)]

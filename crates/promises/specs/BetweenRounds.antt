@@ -18,13 +18,15 @@ use Rattle.mode.specs.Parts.{course}
 use Rattle.mode.specs.Counts.{rekey_rounds, verify_rounds, encrypt_rounds}
 use Rattle.mode.specs.InstanceLaws.{lawful_instance}
 use Rattle.mode.specs.Instances.{params_of}
-use Rattle.mode.specs.Isap.{isap_scheme, lawful_isap}
-use Rattle.mode.specs.Theorems.{Ready, sealing_tag, accepts_if}
-use Rattle.mode.specs.Lasts.{refuses_if}
+use Rattle.mode.specs.Isap.{isap_scheme}
+use Rattle.mode.proofs.Isap.{lawful_isap}
+use Rattle.mode.specs.Theorems.{Ready}
+use Rattle.mode.proofs.Theorems.{sealing_tag, accepts_if}
+use Rattle.mode.proofs.Lasts.{refuses_if}
 use Rattle.mode.specs.Between.{blocks_written, aside_after, mac_state}
-use Rattle.mode.specs.Outputs.{sealing_out_after, opening_out_at}
-use Rattle.mode.specs.Rekeyed as mode
-use Rattle.mode.specs.Sessions.{tag_before_the_end, session_in, session_outside}
+use Rattle.mode.proofs.Outputs.{sealing_out_after, opening_out_at}
+use Rattle.mode.proofs.Rekeyed as mode
+use Rattle.mode.proofs.Sessions.{tag_before_the_end, session_in, session_outside}
 use Rattle.instances.specs.Schemes.{scheme_of, scheme_isap, lawful-scheme, scheme-fits, key_bytes_lem}
 use Rattle.isap.specs.declared.Job.{Job}
 use Rattle.isap.specs.Records.{input_of, machine_of, course_of}

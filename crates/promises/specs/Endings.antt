@@ -9,15 +9,16 @@ use Rattle.scheme.specs.Machine.{Machine, Input}
 use Rattle.scheme.specs.Scheme.{Scheme}
 use Rattle.mode.specs.Params.{Params, LawfulParams}
 use Rattle.mode.specs.Paper.{isap_mac}
-use Rattle.mode.specs.CountLaws.{encrypt_some, encrypt_empty}
+use Rattle.mode.proofs.CountLaws.{encrypt_some, encrypt_empty}
 use Rattle.mode.specs.Counts.{rekey_rounds, verify_rounds, encrypt_rounds, front_count, back_count}
 use Rattle.mode.specs.InstanceLaws.{lawful_instance}
 use Rattle.mode.specs.Instances.{params_of}
 use Rattle.mode.specs.Isap.{isap_scheme}
 use Rattle.mode.specs.Parts.{course}
-use Rattle.mode.specs.Theorems.{Ready, sealing_accepted, accepts_if}
-use Rattle.mode.specs.Lasts as mode
-use Rattle.mode.specs.Lasts.{refuses_if}
+use Rattle.mode.specs.Theorems.{Ready}
+use Rattle.mode.proofs.Theorems.{sealing_accepted, accepts_if}
+use Rattle.mode.proofs.Lasts as mode
+use Rattle.mode.proofs.Lasts.{refuses_if}
 use Rattle.instances.specs.Schemes.{is_spook, scheme_of, scheme_isap}
 use Rattle.isap.specs.declared.Job.{Job}
 use Rattle.isap.specs.Records.{sealing_of, input_of, machine_of, course_of, front_of, back_of}

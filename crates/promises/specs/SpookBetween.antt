@@ -24,14 +24,16 @@ use Rattle.s1p.specs.Parts.{course}
 use Rattle.s1p.specs.Counts.{verify_rounds}
 use Rattle.s1p.specs.Scheme.{s1p_scheme}
 use Rattle.s1p.specs.Walks.{clyde_state}
-use Rattle.s1p.specs.Theorems.{sealing_finished, sealing_ends}
-use Rattle.s1p.specs.Spook.{spook, spook_scheme, spook-lawful, lawful-spook}
-use Rattle.s1p.specs.Lasts.{right_tag, goes_on, accepts_if, refuses_if}
+use Rattle.s1p.proofs.Theorems.{sealing_finished, sealing_ends}
+use Rattle.s1p.specs.Spook.{spook, spook_scheme, spook-lawful}
+use Rattle.s1p.proofs.Spook.{lawful-spook}
+use Rattle.s1p.specs.Lasts.{right_tag}
+use Rattle.s1p.proofs.Lasts.{goes_on, accepts_if, refuses_if}
 use Rattle.s1p.specs.Between.{close_after, close_last, blocks_written}
-use Rattle.s1p.specs.Sessions.{tag_before, tag_opening, session_before, session_closing, session_after}
-use Rattle.s1p.specs.Within.{seed_state, sealing_closing_state, opening_closing_state, second_seed_state}
-use Rattle.s1p.specs.States.{state_started, state_absorbed, state_walked, state_started_again, state_absorbed_again}
-use Rattle.s1p.specs.Outputs.{sealing_out_at, opening_out_at}
+use Rattle.s1p.proofs.Sessions.{tag_before, tag_opening, session_before, session_closing, session_after}
+use Rattle.s1p.proofs.Within.{seed_state, sealing_closing_state, opening_closing_state, second_seed_state}
+use Rattle.s1p.proofs.States.{state_started, state_absorbed, state_walked, state_started_again, state_absorbed_again}
+use Rattle.s1p.proofs.Outputs.{sealing_out_at, opening_out_at}
 use Rattle.instances.specs.Schemes.{scheme_of}
 use Rattle.isap.specs.declared.Job.{Job}
 use Rattle.isap.specs.Records.{input_of, machine_of, course_of}

@@ -15,12 +15,13 @@ use Rattle.s1p.specs.Paper.{blocks, last_state, required, closing_tweak}
 use Rattle.s1p.specs.Parts.{course}
 use Rattle.s1p.specs.Counts.{verify_rounds, back_count}
 use Rattle.s1p.specs.Scheme.{s1p_scheme}
-use Rattle.s1p.specs.Laws.{closing_tweak_is}
-use Rattle.s1p.specs.Evenly.{last_state_kept}
-use Rattle.s1p.specs.Theorems.{sealing_accepted}
+use Rattle.s1p.proofs.Laws.{closing_tweak_is}
+use Rattle.s1p.proofs.Evenly.{last_state_kept}
+use Rattle.s1p.proofs.Theorems.{sealing_accepted}
 use Rattle.s1p.specs.Spook.{spook, spook_scheme, spook-lawful, decrypt_is}
-use Rattle.s1p.specs.Lasts as s1p
-use Rattle.s1p.specs.Lasts.{right_tag, inverse_right, second_some, accepts_if, refuses_if}
+use Rattle.s1p.proofs.Lasts as s1p
+use Rattle.s1p.specs.Lasts.{right_tag}
+use Rattle.s1p.proofs.Lasts.{inverse_right, second_some, accepts_if, refuses_if}
 use Rattle.instances.specs.Schemes.{is_spook, scheme_of, scheme-spook}
 use Rattle.isap.specs.declared.Job.{Job}
 use Rattle.isap.specs.Records.{sealing_of, input_of, machine_of, course_of, front_of, back_of}

@@ -19,7 +19,7 @@ use Rattle.mode.specs.StringLaws.{block_full}
 use Rattle.mode.specs.Params.{Params}
 use Rattle.scheme.specs.Machine.{Machine, Input, on_state, first, cipher_of, given, machine}
 use Rattle.mode.specs.Parts.{part, written, key_bits, texts, assocs, ciphers, mac_key_bits}
-use Rattle.mode.specs.Calls.{turns-run}
+use Rattle.mode.proofs.Calls.{turns-run}
 use Rattle.mode.specs.InstanceLaws.{lawful_instance}
 use Rattle.mode.specs.Instances.{params_of}
 use Rattle.mode.specs.Counts.{enc_shapes, mac_shapes}

@@ -1,9 +1,9 @@
--- Spook[128,512,su], recommended parameters: S1P with Clyde-128 and Shadow-512, and that it is a lawful scheme.
+-- Spook[128,512,su], recommended parameters: S1P with Clyde-128 and Shadow-512, which make a lawful cipher. That it is a lawful scheme
+-- is shown in proofs/ (`Spook`).
 -- Assumes nothing.
 use Rattle.std.specs.Prelude.{◌≡◌, List, ℕ}
 use Rattle.scheme.specs.Machine.{Buffer}
 use Rattle.scheme.specs.Scheme.{Scheme}
-use Rattle.scheme.specs.Lawful.{LawfulScheme}
 use Rattle.clyde.specs.Clyde.{clyde_bytes, clyde_bytes_inverse}
 use Rattle.clyde.specs.OnBytes.{clyde_turn, clyde_turn_back}
 use Rattle.clyde.proofs.OnBytes.{clyde-keeps, clyde-back-keeps}
@@ -12,7 +12,6 @@ use Rattle.shadow.specs.Shadow.{shadow}
 use Rattle.shadow.specs.OnBytes.{bundles_of, bundle_bytes, shadow_turn, shadow-keeps, shadow-turns}
 use Rattle.s1p.specs.Cipher.{Cipher, LawfulCipher, encrypt, decrypt, perm}
 use Rattle.s1p.specs.Scheme.{s1p_scheme}
-use Rattle.s1p.specs.Lawful.{lawful_s1p}
 
 unfoldable pub spook : Cipher
 spook = record { forward = clyde_turn; backward = clyde_turn_back; round = shadow_turn }
@@ -47,8 +46,3 @@ module _ (k t s : List ℕ) (hk : Buffer 16 k) (ht : Buffer 16 t) (hs : Buffer 1
 pub perm_is : (s : List ℕ) → Buffer 64 s → perm spook s ≡ bundle_bytes (shadow (bundles_of s))
 unfolding spook perm
 perm_is s h = shadow-turns s h
-
--- ---- the scheme
-
-pub lawful-spook : LawfulScheme spook_scheme
-lawful-spook = lawful_s1p spook spook-lawful

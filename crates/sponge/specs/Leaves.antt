@@ -16,7 +16,7 @@ use Rattle.bits.specs.Strings.{block}
 use Rattle.mode.specs.Params.{Params}
 use Rattle.scheme.specs.Machine.{Input, on_state, machine}
 use Rattle.mode.specs.Parts.{tag_of, part, key_start, key_bits, key_end, written, texts, mac_start, assocs, ciphers, mac_key_start, mac_key_bits, mac_key_end, tagged, mac_end, enc_parts, mac_parts}
-use Rattle.mode.specs.CountLaws.{shapes_sealing}
+use Rattle.mode.proofs.CountLaws.{shapes_sealing}
 use Rattle.plan.specs.Kinds.{shape_of}
 use Rattle.sponge.specs.Kinds.{part_of}
 

@@ -17,7 +17,7 @@ use Rattle.bits.specs.Strings.{xor_into, xor_at, block}
 use Rattle.bits.specs.StringLaws.{length-block, length-xor_at, xor_into_pad}
 use Rattle.s1p.specs.Paper.{blocks, iv, short_mark, padded, last_data, last_text}
 use Rattle.s1p.specs.Counts.{blocks_are}
-use Rattle.s1p.specs.Laws.{length_iv}
+use Rattle.s1p.proofs.Laws.{length_iv}
 
 -- ---- a whole buffer
 

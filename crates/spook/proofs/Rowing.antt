@@ -22,9 +22,9 @@ use Rattle.s1p.specs.Cipher.{Cipher}
 use Rattle.s1p.specs.Paper.{blocks, text_mark, last_data, last_text}
 use Rattle.s1p.specs.Parts.{due, next, shadowed, assocs, texts}
 use Rattle.s1p.specs.Counts.{blocks_are}
-use Rattle.s1p.specs.Laws.{turns_all, length-last_data, length-last_text}
-use Rattle.s1p.specs.Evenly.{full_data, full_text}
-use Rattle.s1p.specs.Calls.{whole_is, not_due}
+use Rattle.s1p.proofs.Laws.{turns_all, length-last_data, length-last_text}
+use Rattle.s1p.proofs.Evenly.{full_data, full_text}
+use Rattle.s1p.proofs.Calls.{whole_is, not_due}
 use Rattle.spook.specs.Kinds.{part_of}
 use Rattle.spook.specs.Leaving.{block_written, written-or}
 use Rattle.spook.specs.Going.{Gone, DataGone, TextGone}

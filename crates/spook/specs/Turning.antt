@@ -21,7 +21,7 @@ use Rattle.s1p.specs.Paper.{closing_tweak}
 use Rattle.s1p.specs.Parts.{seed, begin, assocs, texts, tagging, verifying, sealing_course, opening_course, course}
 use Rattle.s1p.specs.Counts.{front_shapes, back_shapes, second_shapes}
 use Rattle.s1p.specs.Scheme.{s1p_scheme}
-use Rattle.s1p.specs.Calls.{turns_on}
+use Rattle.s1p.proofs.Calls.{turns_on}
 use Rattle.spook.specs.Kinds.{part_of, part_is, part_count}
 
 -- ---- a call's rounds

@@ -7,7 +7,7 @@ use lib.ListN.{length, take, drop, length-drop}
 use lib.Seq.{take_all}
 use borrow.Author.Rules.{rules}
 use Rattle.bits.specs.Strings.{xor_into, xor_at, block}
-use Rattle.s1p.specs.Evenly.{full_data}
+use Rattle.s1p.proofs.Evenly.{full_data}
 use Rattle.spook.proofs.Blocks.{block_long, data_short}
 use Rattle.spook.proofs.enters.absorb_data.Statement.{statement}
 use Rattle.spook.proofs.enters.absorb_data.Tie as tie

@@ -6,7 +6,7 @@ use lib.ListN.{length, replicate}
 use lib.Seq.{take_all}
 use borrow.Author.Tests.{eq-eqb, ne_eqb}
 use borrow.Author.Rules.{rules}
-use Rattle.s1p.specs.Laws.{put_all}
+use Rattle.s1p.proofs.Laws.{put_all}
 use Rattle.spook.specs.Entering.{session_bytes}
 use Rattle.spook.proofs.enters.enter_session.Statement.{statement}
 use Rattle.spook.proofs.enters.enter_session.Tie as tie

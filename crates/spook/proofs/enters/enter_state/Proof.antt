@@ -8,7 +8,7 @@ use borrow.Author.Tests.{eq-eqb, ne_eqb}
 use borrow.Author.Rules.{rules}
 use Rattle.s1p.specs.Paper.{iv}
 use Rattle.s1p.specs.Spook.{spook}
-use Rattle.s1p.specs.Laws.{put_all}
+use Rattle.s1p.proofs.Laws.{put_all}
 use Rattle.spook.specs.Kinds.{in_data, in_text}
 use Rattle.spook.specs.Entering.{state_bytes}
 use Rattle.spook.proofs.Blocks.{started_long, closed_long}

@@ -8,7 +8,7 @@ use lib.Seq.{take_all}
 use borrow.Author.Rules.{rules}
 use Rattle.bits.specs.Put.{put_at, put_at_zero}
 use Rattle.bits.specs.Strings.{xor_at, block}
-use Rattle.s1p.specs.Evenly.{full_text}
+use Rattle.s1p.proofs.Evenly.{full_text}
 use Rattle.spook.proofs.Blocks.{block_long, text_short}
 use Rattle.spook.proofs.enters.take_cipher.Statement.{statement}
 use Rattle.spook.proofs.enters.take_cipher.Tie as tie

@@ -19,11 +19,12 @@ use Rattle.mode.specs.Params.{Params, LawfulParams}
 use Rattle.mode.specs.Paper.{rekeyed, hashed, finished}
 use Rattle.mode.specs.PaperLaws.{hashed_long, finished_long}
 use Rattle.mode.specs.Parts.{part, key_start, key_bits, key_end, texts, enc_parts, mac_parts, sealing_course, opening_course, course}
-use Rattle.mode.specs.CountLaws.{rounds_mac, shapes_mac, front_some, lawful}
+use Rattle.mode.proofs.CountLaws.{rounds_mac, shapes_mac, front_some, lawful}
 use Rattle.mode.specs.Counts.{rekey_rounds, verify_rounds, front_shapes}
-use Rattle.mode.specs.Ends.{rekeying_end}
-use Rattle.mode.specs.Touches.{rekeying}
-use Rattle.mode.specs.Theorems.{Ready, sealing_accepted, opening_verified}
+use Rattle.mode.proofs.Ends.{rekeying_end}
+use Rattle.mode.proofs.Touches.{rekeying}
+use Rattle.mode.specs.Theorems.{Ready}
+use Rattle.mode.proofs.Theorems.{sealing_accepted, opening_verified}
 
 module _ (p : Params) (l : LawfulParams p) (x : Input) (hk : length x.key ≡ 16) (hn : length x.nonce ≡ 16) where
   count : rounds_in (shapes (rekeying p x)) ≡ rekey_rounds p

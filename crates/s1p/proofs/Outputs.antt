@@ -29,15 +29,16 @@ use Rattle.scheme.specs.Blocks.{Writes, calls_done, out_after}
 use Rattle.s1p.specs.Cipher.{Cipher, LawfulCipher}
 use Rattle.s1p.specs.Paper.{blocks, iv, text_mark, last_data, last_text, text_out, seal}
 use Rattle.s1p.specs.Parts.{written, due, next, seed, begin, assocs, texts, walk, tagging, seal_parts, verify_parts, open_parts, sealing_course, opening_course, course}
-use Rattle.s1p.specs.Counts.{verify_rounds, shape, blocks_are, blocks_some, front-rounds, lawful, unless_some}
+use Rattle.s1p.specs.Counts.{verify_rounds, shape, blocks_are, blocks_some, unless_some}
+use Rattle.s1p.proofs.Counts.{front-rounds, lawful}
 use Rattle.s1p.specs.Scheme.{s1p_scheme}
-use Rattle.s1p.specs.Evenly.{length-text_out}
-use Rattle.s1p.specs.Calls.{empty, not_due}
-use Rattle.s1p.specs.Kept.{seed_out, begin_out, assocs_out, tagging_out, no_writes, verify_out}
-use Rattle.s1p.specs.Theorems.{sealing_accepted, sealing_finished, opening_finished}
-use Rattle.s1p.specs.Lawful.{lawful_s1p}
+use Rattle.s1p.proofs.Evenly.{length-text_out}
+use Rattle.s1p.proofs.Calls.{empty, not_due}
+use Rattle.s1p.proofs.Kept.{seed_out, begin_out, assocs_out, tagging_out, no_writes, verify_out}
+use Rattle.s1p.proofs.Theorems.{sealing_accepted, sealing_finished, opening_finished}
+use Rattle.s1p.proofs.Lawful.{lawful_s1p}
 use Rattle.s1p.specs.Between.{blocks_written}
-use Rattle.s1p.specs.Sessions.{opening_parts, opening_rounds}
+use Rattle.s1p.proofs.Sessions.{opening_parts, opening_rounds}
 
 -- ---- the calls that write, as one part
 

@@ -18,17 +18,19 @@ use Rattle.scheme.specs.Blind.{BlindParts, blind-run}
 use Rattle.scheme.specs.Lawful.{Ready}
 use Rattle.s1p.specs.Cipher.{Cipher, LawfulCipher, decrypt}
 use Rattle.s1p.specs.Paper.{blocks, parsed, start, absorb, last_state, closing_tweak}
-use Rattle.s1p.specs.Parts.{unless_empty, written, due, seed, begin, assocs, texts, walk, verify_parts, course}
-use Rattle.s1p.specs.Counts.{verify_rounds, unless_some, lawful}
+use Rattle.s1p.specs.Parts.{written, due, seed, begin, assocs, texts, walk, verify_parts, course}
+use Rattle.s1p.specs.Counts.{verify_rounds, unless_some}
+use Rattle.s1p.proofs.Counts.{lawful}
 use Rattle.s1p.specs.Scheme.{s1p_scheme}
-use Rattle.s1p.specs.Laws.{length-decrypt}
-use Rattle.s1p.specs.Evenly.{behind_is, length-last_state}
-use Rattle.s1p.specs.Calls.{and_then, done}
-use Rattle.s1p.specs.Walks.{zero64, clyde_state, length-clyde_state, r_seed, r_begin, r_data}
-use Rattle.s1p.specs.Tails.{walk-blind}
-use Rattle.s1p.specs.Theorems.{fore, fore-exact, split, opening_verified}
+use Rattle.s1p.proofs.Laws.{length-decrypt}
+use Rattle.s1p.proofs.Evenly.{behind_is, length-last_state}
+use Rattle.s1p.proofs.Calls.{and_then, done}
+use Rattle.s1p.specs.Walks.{zero64, clyde_state}
+use Rattle.s1p.proofs.Walks.{length-clyde_state, r_seed, r_begin, r_data}
+use Rattle.s1p.proofs.Tails.{walk-blind}
+use Rattle.s1p.proofs.Theorems.{fore, fore-exact, split, opening_verified}
 use Rattle.s1p.specs.Between.{close_after, close_last}
-use Rattle.s1p.specs.Sessions.{u, v, before, closing, closing_some, early, before-rounds, reached, opening_front, opening_parts, opening_rounds}
+use Rattle.s1p.proofs.Sessions.{u, v, before, closing, closing_some, early, before-rounds, reached, opening_front, opening_parts, opening_rounds}
 
 -- where the first parts end
 at_parts : (bs ds : List (Part Machine)) → EachSome (shapes ds) → (n : ℕ) → n ≡ rounds_in (shapes bs) → (m : Machine)

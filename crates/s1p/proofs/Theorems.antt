@@ -22,13 +22,15 @@ use Rattle.scheme.specs.Lawful.{Ready, finished}
 use Rattle.s1p.specs.Cipher.{Cipher, LawfulCipher, encrypt, decrypt}
 use Rattle.s1p.specs.Paper.{text_out, last_state, required, closing_tweak, tag_of, seal, agrees, unseal}
 use Rattle.s1p.specs.Parts.{seal_parts, verify_parts, open_parts, sealing_course, opening_course, course}
-use Rattle.s1p.specs.Counts.{verify_rounds, back_count, front-rounds, back-rounds, lawful}
+use Rattle.s1p.specs.Counts.{verify_rounds, back_count}
+use Rattle.s1p.proofs.Counts.{front-rounds, back-rounds, lawful}
 use Rattle.s1p.specs.Scheme.{s1p_scheme}
-use Rattle.s1p.specs.Laws.{length-decrypt, required_is, closing_tweak_is}
-use Rattle.s1p.specs.Evenly.{length-last_state, last_state_kept, text_back, state_back}
-use Rattle.s1p.specs.Walks.{clyde_state, length-clyde_state, clyde_state-front}
-use Rattle.s1p.specs.Ends.{seal_end, verify_end, open_end}
-use Rattle.s1p.specs.Tails.{seal-blind, verify_blind, walk-blind}
+use Rattle.s1p.proofs.Laws.{length-decrypt, required_is, closing_tweak_is}
+use Rattle.s1p.proofs.Evenly.{length-last_state, last_state_kept, text_back, state_back}
+use Rattle.s1p.specs.Walks.{clyde_state}
+use Rattle.s1p.proofs.Walks.{length-clyde_state, clyde_state-front}
+use Rattle.s1p.proofs.Ends.{seal_end, verify_end, open_end}
+use Rattle.s1p.proofs.Tails.{seal-blind, verify_blind, walk-blind}
 
 -- ---- the required value and the tag
 

@@ -26,7 +26,7 @@ use Rattle.mode.specs.Paper.{absorb_bits, rekeyed, rekey_mac, rekey_enc, blocks,
 use Rattle.mode.specs.PaperLaws.{perm_long, length-start, bits_long, rekeyed_long, absorb_long, padded-short, hashed_long, key_long_lem, blocks_are}
 use Rattle.scheme.specs.Machine.{Machine, Input, first, cipher_of, machine}
 use Rattle.mode.specs.Parts.{tag_of, part, key_start, key_bits, key_end, texts, mac_start, assocs, ciphers, mac_key_start, mac_key_bits, mac_key_end, mac_end, enc_parts, mac_parts}
-use Rattle.mode.specs.Calls.{nonce_put, nonce_long_lem, w_key_start, w_key_bits, w_key_end, w_texts, w_mac_start, w_assocs, w_ciphers, w_mac_key_start, w_mac_key_bits, w_mac_key_end, w_mac_end}
+use Rattle.mode.proofs.Calls.{nonce_put, nonce_long_lem, w_key_start, w_key_bits, w_key_end, w_texts, w_mac_start, w_assocs, w_ciphers, w_mac_key_start, w_mac_key_bits, w_mac_key_end, w_mac_end}
 
 -- the state after k blocks of text
 unfoldable pub squeezed : Params → ℕ → List ℕ → List ℕ

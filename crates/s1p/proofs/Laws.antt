@@ -17,7 +17,7 @@ use Rattle.bits.specs.StringLaws.{length-xor_into, length-xor_at, bytes-xor_into
 use Rattle.scheme.specs.Machine.{Buffer}
 use Rattle.s1p.specs.Cipher.{Cipher, LawfulCipher, encrypt, decrypt, perm}
 use Rattle.s1p.specs.Paper.{iv, start, text_mark, short_mark, padded, last_data, cipher_block, last_text, required, closing_tweak}
-use Rattle.s1p.specs.Layouts.{length-padded, length-short_mark}
+use Rattle.s1p.proofs.Layouts.{length-padded, length-short_mark}
 
 -- a block has at most 32 bytes
 pub small_block : (t : List ℕ) → length (take 32 t) ≤ 32

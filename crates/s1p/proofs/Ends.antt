@@ -20,10 +20,12 @@ use Rattle.s1p.specs.Cipher.{Cipher, LawfulCipher, encrypt, decrypt}
 use Rattle.s1p.specs.Paper.{blocks, parsed, text_mark, marked, required, closing_tweak, text_out, last_state, tag_of}
 use Rattle.s1p.specs.Parts.{unless_empty, seed, begin, assocs, texts, set_aside, tagged, tagging, verifying, walk, seal_parts, verify_parts, open_parts}
 use Rattle.s1p.specs.Counts.{blocks_are, blocks_some}
-use Rattle.s1p.specs.Laws.{put_all, turns-front, length-encrypt, length-required}
-use Rattle.s1p.specs.Evenly.{ends_all, outs_all, behind, outs_all_past, last_state_is, length-text_out, length-last_state}
-use Rattle.s1p.specs.Calls.{empty, whole_is, done}
-use Rattle.s1p.specs.Walks.{clyde_state, length-clyde_state, clyde_state-front, zero64, write_then, quiet_then, all_out}
+use Rattle.s1p.proofs.Laws.{put_all, turns-front, length-encrypt, length-required}
+use Rattle.s1p.specs.Evenly.{ends_all, outs_all, behind}
+use Rattle.s1p.proofs.Evenly.{outs_all_past, last_state_is, length-text_out, length-last_state}
+use Rattle.s1p.proofs.Calls.{empty, whole_is, done}
+use Rattle.s1p.specs.Walks.{clyde_state, zero64}
+use Rattle.s1p.proofs.Walks.{length-clyde_state, clyde_state-front, write_then, quiet_then, all_out}
 
 module _ (p : Cipher) (l : LawfulCipher p) (x : Input) (hn : length x.nonce ≡ 16) where
   abbrev u : ℕ

@@ -10,7 +10,6 @@ use mathlib.Core.List.{List, [], ◌∷◌, ◌++◌}
 use native.Mathlib.Omega.{arith}
 use Rattle.std.proofs.Math.ListN.{length, drop, replicate, length-replicate}
 use Rattle.bits.specs.Pick.{pick}
-use Rattle.bits.specs.Run.{front}
 use Rattle.bits.specs.Put.{put, put_front}
 use Rattle.stopping.specs.Stopped.{stopped}
 use Rattle.stopping.specs.Rows.{run}
@@ -25,12 +24,13 @@ use Rattle.scheme.specs.Lawful.{Ready}
 use Rattle.s1p.specs.Cipher.{Cipher, LawfulCipher}
 use Rattle.s1p.specs.Paper.{blocks, text_out, last_state}
 use Rattle.s1p.specs.Parts.{unless_empty, written, due, next, seeded, seed, begin, assocs, texts, walk, set_aside, tagged, tagging, verifying, verify_parts, sealing_course, opening_course, course}
-use Rattle.s1p.specs.Counts.{verify_rounds, unless_some, front-rounds, lawful}
+use Rattle.s1p.specs.Counts.{verify_rounds, unless_some}
+use Rattle.s1p.proofs.Counts.{front-rounds, lawful}
 use Rattle.s1p.specs.Scheme.{s1p_scheme}
-use Rattle.s1p.specs.Evenly.{length-last_state}
-use Rattle.s1p.specs.Ends.{seal-walk, verify_walk}
-use Rattle.s1p.specs.Tails.{walk-blind}
-use Rattle.s1p.specs.Theorems.{fore, fore-exact, split}
+use Rattle.s1p.proofs.Evenly.{length-last_state}
+use Rattle.s1p.proofs.Ends.{seal-walk, verify_walk}
+use Rattle.s1p.proofs.Tails.{walk-blind}
+use Rattle.s1p.proofs.Theorems.{fore, fore-exact, split}
 use Rattle.s1p.specs.Between.{close_after, close_last}
 
 -- ---- what each part touches besides state and output

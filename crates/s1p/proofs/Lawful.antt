@@ -14,13 +14,14 @@ use Rattle.scheme.specs.Lawful.{LawfulScheme}
 use Rattle.s1p.specs.Cipher.{Cipher, LawfulCipher}
 use Rattle.s1p.specs.Paper.{last_state, required, closing_tweak, tag_of, seal}
 use Rattle.s1p.specs.Parts.{seal_parts, verify_parts, open_parts, sealing_course, opening_course, course}
-use Rattle.s1p.specs.Counts.{front_shapes, second_shapes, back_shapes, shapes-front, shapes-back, front-count, back_count_lem, front_some, back_some_lem, verify_some}
+use Rattle.s1p.specs.Counts.{front_shapes, second_shapes, back_shapes, front-count, back_count_lem, front_some, back_some_lem, verify_some}
+use Rattle.s1p.proofs.Counts.{shapes-front, shapes-back}
 use Rattle.s1p.specs.Scheme.{s1p_scheme}
-use Rattle.s1p.specs.Laws.{length-required, length-encrypt}
-use Rattle.s1p.specs.Evenly.{length-text_out, length-last_state}
-use Rattle.s1p.specs.Kept.{course_long, opening_untouched, course_kept}
-use Rattle.s1p.specs.Tails.{take_within, seal-blind, verify_blind, walk-blind}
-use Rattle.s1p.specs.Theorems.{open_sealed_lem, sealed-back, sealing_finished, opening_is_paper}
+use Rattle.s1p.proofs.Laws.{length-required, length-encrypt}
+use Rattle.s1p.proofs.Evenly.{length-text_out, length-last_state}
+use Rattle.s1p.proofs.Kept.{course_long, opening_untouched, course_kept}
+use Rattle.s1p.proofs.Tails.{take_within, seal-blind, verify_blind, walk-blind}
+use Rattle.s1p.proofs.Theorems.{open_sealed_lem, sealed-back, sealing_finished, opening_is_paper}
 
 -- five parts, and in an opening four more
 parts_fixed : (p : Cipher) (b : Bool) (a m : ℕ) → length (all_shapes (s1p_scheme p) b a m) ≡ parts_of (s1p_scheme p) b

@@ -6,7 +6,7 @@ use Rattle.std.proofs.Math.Path.{refl, subst}
 use Rattle.std.proofs.Common.{sym, ◌∙◌, arith}
 use Rattle.std.proofs.Math.Bool.{true, false}
 use mathlib.Core.List.{List, ◌++◌}
-use Prim.Native.Nat.{ℕ, zero, suc, ◌+◌, ◌*◌, ◌≤◌}
+use Prim.Native.Nat.{ℕ, zero, suc, ◌*◌, ◌≤◌}
 use Rattle.std.proofs.Math.ListN.{length, take, replicate}
 use Rattle.std.proofs.lemmas.List.{length-replicate}
 use Rattle.std.proofs.Math.Seq.{length-take-le}
@@ -23,8 +23,8 @@ use Rattle.scheme.specs.Lawful.{KeepsCourse}
 use Rattle.s1p.specs.Cipher.{Cipher, LawfulCipher}
 use Rattle.s1p.specs.Paper.{blocks, iv, text_mark, closing_tweak}
 use Rattle.s1p.specs.Parts.{written, due, next, seeded, seed, begin, assocs, texts, set_aside, tagged, tagging, verifying, sealing_course, opening_course, course}
-use Rattle.s1p.specs.Laws.{length-last_data, length-last_text, length_iv, bytes-text_mark, bytes-last_data, bytes-last_text, bytes_iv}
-use Rattle.s1p.specs.Calls.{length-first-mark}
+use Rattle.s1p.proofs.Laws.{length-last_data, length-last_text, length_iv, bytes-text_mark, bytes-last_data, bytes-last_text, bytes_iv}
+use Rattle.s1p.proofs.Calls.{length-first-mark}
 
 module _ (p : Cipher) (x : Input) where
   -- ---- the output

@@ -19,9 +19,9 @@ use Rattle.scheme.specs.Blind.{Blind, BlindPart, BlindParts, first-within, blind
 use Rattle.s1p.specs.Cipher.{Cipher, LawfulCipher}
 use Rattle.s1p.specs.Paper.{blocks, iv, text_mark, short_mark, padded, last_data, last_text, closing_tweak}
 use Rattle.s1p.specs.Parts.{written, due, next, seeded, seed, begin, assocs, texts, set_aside, tagged, tagging, verifying, walk, seal_parts, verify_parts}
-use Rattle.s1p.specs.Layouts.{length-padded, length-short_mark}
-use Rattle.s1p.specs.Laws.{length-last_data, length-last_text, length_iv}
-use Rattle.s1p.specs.Calls.{length-first-mark}
+use Rattle.s1p.proofs.Layouts.{length-padded, length-short_mark}
+use Rattle.s1p.proofs.Laws.{length-last_data, length-last_text, length_iv}
+use Rattle.s1p.proofs.Calls.{length-first-mark}
 
 -- ---- a state of a longer buffer
 

@@ -16,8 +16,8 @@ use Rattle.scheme.specs.Blind.{first-exact}
 use Rattle.s1p.specs.Cipher.{Cipher}
 use Rattle.s1p.specs.Paper.{blocks, text_mark, marked}
 use Rattle.s1p.specs.Parts.{part, written, due}
-use Rattle.s1p.specs.Layouts.{length-text_mark}
-use Rattle.s1p.specs.Laws.{xors-mark}
+use Rattle.s1p.proofs.Layouts.{length-text_mark}
+use Rattle.s1p.proofs.Laws.{xors-mark}
 
 -- ---- strings
 

@@ -24,16 +24,18 @@ use Rattle.scheme.specs.Lawful.{Ready}
 use Rattle.s1p.specs.Cipher.{Cipher, LawfulCipher, decrypt}
 use Rattle.s1p.specs.Paper.{last_state, required, closing_tweak}
 use Rattle.s1p.specs.Parts.{unless_empty, seeded, seed, begin, assocs, texts, set_aside, tagged, tagging, verifying, verify_parts, opening_course, course}
-use Rattle.s1p.specs.Counts.{verify_rounds, unless_some, lawful}
+use Rattle.s1p.specs.Counts.{verify_rounds, unless_some}
+use Rattle.s1p.proofs.Counts.{lawful}
 use Rattle.s1p.specs.Scheme.{s1p_scheme}
-use Rattle.s1p.specs.Laws.{turns-front, length-decrypt}
-use Rattle.s1p.specs.Evenly.{length-last_state}
-use Rattle.s1p.specs.Calls.{turns_on}
-use Rattle.s1p.specs.Walks.{clyde_state, length-clyde_state}
-use Rattle.s1p.specs.Tails.{closing_tweak-within}
-use Rattle.s1p.specs.Theorems.{opening_verified}
+use Rattle.s1p.proofs.Laws.{turns-front, length-decrypt}
+use Rattle.s1p.proofs.Evenly.{length-last_state}
+use Rattle.s1p.proofs.Calls.{turns_on}
+use Rattle.s1p.specs.Walks.{clyde_state}
+use Rattle.s1p.proofs.Walks.{length-clyde_state}
+use Rattle.s1p.proofs.Tails.{closing_tweak-within}
+use Rattle.s1p.proofs.Theorems.{opening_verified}
 use Rattle.s1p.specs.Between.{close_after, close_last}
-use Rattle.s1p.specs.Sessions.{unseeded, u, v, before, closing, closing_one, closing_some, early, before-rounds, walked_to, entered, entered_session, opening_front, opening_parts, opening_rounds}
+use Rattle.s1p.proofs.Sessions.{unseeded, u, v, before, closing, closing_one, closing_some, early, before-rounds, walked_to, entered, entered_session, opening_front, opening_parts, opening_rounds}
 
 -- ---- a part of one call, behind the parts bs: its state after some of its rounds, or all
 

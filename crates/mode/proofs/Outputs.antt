@@ -21,11 +21,12 @@ use Rattle.mode.specs.Params.{Params, LawfulParams}
 use Rattle.mode.specs.Paper.{blocks, isap_enc, seal}
 use Rattle.scheme.specs.Machine.{Machine, Input}
 use Rattle.mode.specs.Parts.{part, key_start, key_bits, key_end, texts, mac_parts, sealing_course, opening_course, course}
-use Rattle.mode.specs.CountLaws.{rounds_mac, shapes_mac, front_some, lawful}
+use Rattle.mode.proofs.CountLaws.{rounds_mac, shapes_mac, front_some, lawful}
 use Rattle.mode.specs.Counts.{rekey_rounds, verify_rounds, encrypt_rounds, front_shapes}
-use Rattle.mode.specs.Theorems.{Ready, sealing_accepted, sealing_out, opening_out}
+use Rattle.mode.specs.Theorems.{Ready}
+use Rattle.mode.proofs.Theorems.{sealing_accepted, sealing_out, opening_out}
 use Rattle.mode.specs.Between.{blocks_written}
-use Rattle.mode.specs.Touches.{rekeying, rekeying-keeps, mac_keeps, texts_write}
+use Rattle.mode.proofs.Touches.{rekeying, rekeying-keeps, mac_keeps, texts_write}
 
 module _ (p : Params) (l : LawfulParams p) (x : Input) where
   -- the calls of `texts` that are done in a row in which the parts cs and re-keying come first

@@ -19,14 +19,14 @@ use Rattle.mode.specs.Paper.{isap_enc, hashed}
 use Rattle.mode.specs.PaperLaws.{enc_length, hashed_long}
 use Rattle.scheme.specs.Machine.{Machine, Input, cipher_of, machine}
 use Rattle.mode.specs.Parts.{mac_end, enc_parts, sealing_course, opening_course, course}
-use Rattle.mode.specs.CountLaws.{rounds_enc, shapes_enc, back_some_lem, front-rounds}
+use Rattle.mode.proofs.CountLaws.{rounds_enc, shapes_enc, back_some_lem, front-rounds}
 use Rattle.mode.specs.Counts.{rekey_rounds, verify_rounds, encrypt_rounds, back_shapes, front_count}
-use Rattle.mode.specs.Ends.{enc_state, enc_state_long, enc_end}
+use Rattle.mode.proofs.Ends.{enc_state, enc_state_long, enc_end, hashing_end}
 use Rattle.mode.specs.Theorems.{Ready}
 use Rattle.mode.specs.Between.{aside_after, mac_state}
-use Rattle.mode.specs.Touches.{hashing, mac_rekeying, enc_keeps}
-use Rattle.mode.specs.Ends.{hashing_end}
-use Rattle.mode.specs.Aside.{tag_until, SessionOf, session_of}
+use Rattle.mode.proofs.Touches.{hashing, mac_rekeying, enc_keeps}
+use Rattle.mode.specs.Aside.{SessionOf}
+use Rattle.mode.proofs.Aside.{tag_until, session_of}
 
 module _ (p : Params) (l : LawfulParams p) (x : Input) where
   abbrev a : ℕ

@@ -9,9 +9,10 @@ use Rattle.scheme.specs.Machine.{Machine, Input}
 use Rattle.mode.specs.Params.{Params, LawfulParams}
 use Rattle.mode.specs.Paper.{isap_mac}
 use Rattle.mode.specs.Parts.{course}
-use Rattle.mode.specs.CountLaws.{front-rounds, back-rounds, all_count_lem, lawful}
+use Rattle.mode.proofs.CountLaws.{front-rounds, back-rounds, all_count_lem, lawful}
 use Rattle.mode.specs.Counts.{verify_rounds, encrypt_rounds, front_count}
-use Rattle.mode.specs.Theorems.{Ready, sealing_accepted, accepts_if, accepts_only_if}
+use Rattle.mode.specs.Theorems.{Ready}
+use Rattle.mode.proofs.Theorems.{sealing_accepted, accepts_if, accepts_only_if}
 
 module _ (p : Params) (l : LawfulParams p) (x : Input) (hk : length x.key ≡ 16) (hn : length x.nonce ≡ 16) (m : Machine) (ready : Ready p x m) where
   abbrev a : ℕ

@@ -1,0 +1,14 @@
+pub mod CountLaws
+pub mod Calls
+pub mod Ends
+pub mod Touches
+pub mod Theorems
+pub mod Kept
+pub mod Beyond
+pub mod Isap
+pub mod Checked
+pub mod Outputs
+pub mod Aside
+pub mod Sessions
+pub mod Rekeyed
+pub mod Lasts

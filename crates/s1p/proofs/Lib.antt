@@ -1,0 +1,17 @@
+pub mod Counts
+pub mod Layouts
+pub mod Laws
+pub mod Evenly
+pub mod Calls
+pub mod Walks
+pub mod Ends
+pub mod Tails
+pub mod Kept
+pub mod Theorems
+pub mod Lawful
+pub mod Spook
+pub mod Lasts
+pub mod Sessions
+pub mod Within
+pub mod States
+pub mod Outputs
