@@ -2,7 +2,7 @@
 -- along a formula (`circulant`, `Sum`); the first lines at its end are computed, from (1, 0) and (0, 1).
 -- Assumes nothing.
 use Rattle.std.specs.Prelude.{◌≡◌, ℕ, ◌<◌}
-use Rattle.std.proofs.Common.{sym, ap, ◌∙◌, lit<}
+use Rattle.std.proofs.Common.{sym, lit<}
 use Rattle.std.specs.Int.Bits.{bit_xor}
 use Rattle.bits.specs.Digit.{odd, bit}
 use Rattle.bits.specs.Number.{number}
@@ -73,7 +73,7 @@ module _ (p : Pair) (h : Fit2 p) where
 
   -- ---- one undoes the other
 
-  inverse_of_formula : lbox_inverse (lbox_formula p) ≡ p
+  pub inverse_of_formula : lbox_inverse (lbox_formula p) ≡ p
   unfolding lbox_formula lbox_inverse rotl number bit odd
   inverse_of_formula =
       let d = direct xs ys in
@@ -82,7 +82,7 @@ module _ (p : Pair) (h : Fit2 p) where
       let eb = same-sums e.1 ys in
       λ i. record { a = ea i; b = eb i }
 
-  formula_of_inverse : lbox_formula (lbox_inverse p) ≡ p
+  pub formula_of_inverse : lbox_formula (lbox_inverse p) ≡ p
   unfolding lbox_formula lbox_inverse rotl number bit odd
   formula_of_inverse =
       let d = inverse xs ys in
@@ -102,9 +102,3 @@ lbox-fit p =
 pub lbox_inverse-fit : (p : Pair) → Fit2 (lbox_inverse p)
 unfolding lbox_inverse
 lbox_inverse-fit p = record { fa = rotr_lt 32 16 (fa3 bit_xor (rotr 32) p.a p.b); fb = rotr_lt 32 16 (fb3 bit_xor (rotr 32) p.a p.b) }
-
-pub lbox_undone : (p : Pair) → Fit2 p → lbox_inverse (lbox p) ≡ p
-lbox_undone p h = ap lbox_inverse (sym (lbox_formula_lem p h)) ∙ inverse_of_formula p h
-
-pub lbox_undoes : (p : Pair) → Fit2 p → lbox (lbox_inverse p) ≡ p
-lbox_undoes p h = sym (lbox_formula_lem (lbox_inverse p) (lbox_inverse-fit p)) ∙ formula_of_inverse p h

@@ -1,6 +1,7 @@
 mod Along
 mod Runs
 pub mod Lbox
+pub mod LboxUndone
 pub mod Sbox
 pub mod Undone
 pub mod Theorems

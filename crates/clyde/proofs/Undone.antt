@@ -15,7 +15,8 @@ use Rattle.clyde.specs.Components.{s_layer, s_inverse, lbox, lbox_inverse, on_pa
 use Rattle.clyde.specs.Constants.{W_bits}
 use Rattle.clyde.specs.Clyde.{delta, TK, round, step, clyde, round_inverse, step_inverse, clyde_inverse}
 use Rattle.clyde.specs.Lbox.{Fit2}
-use Rattle.clyde.proofs.Lbox.{lbox-fit, lbox_inverse-fit, lbox_undone, lbox_undoes}
+use Rattle.clyde.proofs.Lbox.{lbox-fit, lbox_inverse-fit}
+use Rattle.clyde.proofs.LboxUndone.{lbox_undone, lbox_undoes}
 use Rattle.clyde.specs.Sbox.{Fit}
 use Rattle.clyde.proofs.Sbox.{s_undone, s_undoes, s_layer-fit, s_inverse-fit}
 
