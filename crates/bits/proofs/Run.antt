@@ -1,6 +1,6 @@
 -- A run of a permutation's rounds on a buffer is a run of its rounds on the first n bytes; the others stay.
 -- Assumes nothing.
-use Rattle.std.proofs.Common.{◌≡◌, refl, sym, ap, ap₂, ◌∙◌, subst, List, ◌++◌, ℕ, zero, suc, ◌+◌, ◌≤◌, length, take, drop, length-append, length-drop, take-append-drop, take_at, drop_at}
+use Rattle.std.proofs.Common.{◌≡◌, sym, ap, ap₂, ◌∙◌, subst, List, ◌++◌, ℕ, zero, suc, ◌+◌, ◌≤◌, length, take, drop, length-append, length-drop, take-append-drop, take_at, drop_at}
 use Rattle.std.proofs.Math.Nat.{add-sub_of_le}
 use Rattle.bits.specs.Bytes.{Bytes, bytes_take, bytes_drop, bytes-append}
 use Rattle.bits.specs.Run.{turns, rounds, front, run, Keeps, length-rounds, bytes-rounds, length-first}

@@ -3,7 +3,7 @@
 -- Assumes nothing.
 use Rattle.std.specs.Prelude.{◌≡◌, take}
 use Rattle.std.proofs.Math.Path.{refl, sym, ap, ap₂}
-use Rattle.std.proofs.Common.{◌∙◌, subst, add-zero, add-suc, add_assoc, add-one, arith, length-take, length-drop, take-append-drop, drop_of_length-le, take_at, drop_at, take_all}
+use Rattle.std.proofs.Common.{◌∙◌, add-zero, add-suc, add_assoc, add-one, arith, length-take, length-drop, drop_of_length-le, take_at, drop_at, take_all}
 use mathlib.Core.List.{List, ◌++◌, append-nil}
 use Prim.Native.Nat.{ℕ, zero, suc, ◌+◌, ◌≤◌}
 use Rattle.std.proofs.Math.Nat.{add-sub_of_le, min-eq_left}

@@ -2,7 +2,7 @@
 -- along a formula (`circulant`, `Sum`); the first lines at its end are computed, from (1, 0) and (0, 1).
 -- Assumes nothing.
 use Rattle.std.specs.Prelude.{◌≡◌, ℕ, ◌<◌}
-use Rattle.std.proofs.Common.{sym, lit<}
+use Rattle.std.proofs.Common.{lit<}
 use Rattle.std.specs.Int.Bits.{bit_xor}
 use Rattle.bits.specs.Digit.{odd, bit}
 use Rattle.bits.specs.Number.{number}

@@ -4,7 +4,7 @@
 use Rattle.std.proofs.Common.{◌≡◌, sym, ap, ◌∙◌}
 use Rattle.clyde.specs.declared.Pair.{Pair}
 use Rattle.clyde.specs.Components.{lbox, lbox_inverse}
-use Rattle.clyde.specs.Lbox.{Fit2, lbox_formula}
+use Rattle.clyde.specs.Lbox.{Fit2}
 use Rattle.clyde.proofs.Lbox.{lbox_formula_lem, lbox_inverse-fit, inverse_of_formula, formula_of_inverse}
 
 pub lbox_undone : (p : Pair) → Fit2 p → lbox_inverse (lbox p) ≡ p

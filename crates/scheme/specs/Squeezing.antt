@@ -2,14 +2,11 @@
 -- the state's first bytes. The text never enters the state. So from one state every text is xored with one and the same keystream, and that
 -- is why no state may be squeezed from for two texts (`twice`, `common`, `first_part`).
 -- Assumes nothing.
-use Rattle.std.specs.Prelude.{◌≡◌, length, take, drop}
-use Rattle.std.proofs.Math.Path.{refl, sym, ap, ap₂}
-use Rattle.std.proofs.Common.{◌∙◌, zero-mul, div-add-mod', mod-lt, arith, length-take, length-drop, length-take-le}
+use Rattle.std.specs.Prelude.{◌≡◌, length, take}
+use Rattle.std.proofs.Common.{div-add-mod', mod-lt, arith}
 use mathlib.Core.List.{List, [], ◌∷◌, ◌++◌}
 use Prim.Native.Nat.{ℕ, zero, suc, ◌+◌, ◌-◌, ◌*◌, ◌/◌, ◌≤◌, ◌<◌}
-use Rattle.std.proofs.Math.Nat.{suc-mul}
-use Rattle.std.proofs.Math.ListN.{length-append}
-use Rattle.bits.specs.Xors.{xors, length-xors, xors_none, xors-append, xors-take, take-xors, xors_common, xors_twice}
+use Rattle.bits.specs.Xors.{xors}
 use Rattle.bits.specs.Strings.{cut}
 
 -- S ← f(S), C ← S ⊕ M, block by block

@@ -16,7 +16,7 @@ pub loop-left-preserved : goal.loop-left-preserved
 loop-left-preserved c =
     let n = c.if-left-lt3.n in
     let some : (0 < n) × (n < 4) × (n ≤ c.loop-left.left) =
-      elim c.if-left-lt3.branch [ then-left-lt3 w ↦ (omega arith, omega arith, omega arith) | else-left-lt3 w ↦ (omega arith, omega arith, omega arith) ] in
+    elim c.if-left-lt3.branch [ then-left-lt3 w ↦ (omega arith, omega arith, omega arith) | else-left-lt3 w ↦ (omega arith, omega arith, omega arith) ] in
     let i = c.args.i in
     let inv = c.loop-left.invariant in
     let j : ℕ = i + (c.loop-left.left - n) in
