@@ -1,17 +1,12 @@
 -- `spook::turns::close` meets its contract.
 -- Assumes nothing.
-use mathlib.Core.Path.{◌≡◌, refl, ap, ◌∙◌}
-use mathlib.Core.Bool.{Bool, true, false, not}
-use mathlib.Core.List.{List}
-use Prim.Native.Nat.{ℕ}
-use borrow.Author.Rules.{rules}
+use Rattle.std.proofs.Common.{Bool, List, ap, false, not, refl, true, ℕ, ◌∙◌, ◌≡◌}
 use Rattle.bits.specs.Run.{run}
 use Rattle.clyde.specs.OnBytes.{turn_by}
 use Rattle.s1p.specs.Paper.{closing_tweak}
 use Rattle.s1p.specs.Spook.{spook}
 use Rattle.spook.specs.Turning.{closed}
-use Rattle.spook.proofs.turns.close.Statement.{statement}
-use Rattle.spook.proofs.turns.close.Tie as tie
+use Rattle.spook.proofs.turns.close.Goals as goal
 
 -- back where it does not seal
 either : (sealing : Bool) (key : List ℕ) (from count : ℕ) (s ss : List ℕ)
@@ -20,13 +15,10 @@ unfolding closed spook
 either true key from count s ss = refl
 either false key from count s ss = refl
 
-returns : tie.Need-returns
+pub returns : goal.returns
 returns c =
-    let a = c.before.before.args in
-    let w = c.before.with-tweak.ensures in
+    let a = c.args in
+    let w = c.with_tweak.ensures in
     c.enciphered.ensures
     ∙ ap (λ (t : List ℕ). run 16 (turn_by (not a.sealing) a.key t) a.from a.count a.state) w
     ∙ either a.sealing a.key a.from a.count a.state a.session
-
-pub close_spec : {M : Type 1} → statement M
-close_spec = tie.close (tie.spec (λ c κs. search rules) (λ c κs. search rules) returns)
