@@ -10,7 +10,7 @@ ghost use Rattle.bits.specs.Run.{rounds as Rounds, run as Run};
 ghost use Rattle.bits.specs.Xors.{xors};
 ghost use Rattle.ascon.specs.Permutation.{constants, p_c, p_s, sigma, p_l, bytes_of, ascon_round};
 
-#[derive(Drop)]
+#[derive(Clone, Copy)]
 pub struct Words {
     pub x0: u64,
     pub x1: u64,
