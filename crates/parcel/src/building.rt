@@ -1,5 +1,5 @@
 // Building a parcel: its refusals, then header, ciphertext and tag, one behind the other.
-ghost use Rattle.std.specs.Prelude.{◌≡◌, length};
+ghost use Rattle.std.specs.Prelude.{◌≡◌, ◌≤◌, ◌++◌, length, drop};
 ghost use Rattle.instances.specs.Schemes.{scheme_of};
 ghost use Rattle.parcel.specs.Building.{build_refusal, CanBuild, PutsParcel};
 ghost use Rattle.parcel.specs.Statements.{Builds};
@@ -31,6 +31,14 @@ fn build_refusal(instance: u32, key: usize, m: usize, out: usize, last: u64) -> 
     0
 }
 
+// The bytes of `from` in place of the first of `to`.
+fn copy(from: &[u8], to: &mut [u8])
+    requires { length from.now ≤ length to.old }
+    ensures { to.new ≡ from.now ++ drop (length from.now) to.old }
+{
+    to[..from.len()].copy_from_slice(from);
+}
+
 // Writes the parcel of these fields: header, ciphertext, tag.
 fn put_parcel(fields: Fields, key: &[u8], text: &[u8], out: &mut [u8]) -> Answer
     requires { CanBuild scheme_of fields.instance (length key.now) (length text.now) (length out.old) }
@@ -49,8 +57,8 @@ fn put_parcel(fields: Fields, key: &[u8], text: &[u8], out: &mut [u8]) -> Answer
         &mut out[layout::HEADER..end],
         &mut tag,
     );
-    bytes::copy(&header, out);
-    bytes::copy(&tag, &mut out[end..]);
+    copy(&header, out);
+    copy(&tag, &mut out[end..]);
     sealed
 }
 
