@@ -1,4 +1,4 @@
-// For a host in C: numbers and byte slices only. A slice is a pointer and a length.
+// For a host in C, to which crates/isap_c exports them: numbers and byte slices only.
 ghost use Rattle.std.specs.Prelude.{◌≡◌};
 ghost use Rattle.instances.specs.Schemes.{scheme_of};
 ghost use Rattle.isap.specs.Whole.{packed};
@@ -13,8 +13,7 @@ pub fn pack(number: u32, rounds: u32) -> u64
     number as u64 + 4294967296 * rounds as u64
 }
 
-#[unsafe(no_mangle)]
-pub extern "C" fn isap_seal(
+pub fn isap_seal(
     instance: u32,
     key: &[u8],
     nonce: &[u8],
@@ -29,8 +28,7 @@ pub extern "C" fn isap_seal(
     pack(answer.number, answer.rounds)
 }
 
-#[unsafe(no_mangle)]
-pub extern "C" fn isap_open(
+pub fn isap_open(
     instance: u32,
     key: &[u8],
     nonce: &[u8],
@@ -46,8 +44,7 @@ pub extern "C" fn isap_open(
 }
 
 // The rounds of a verification, which a wrong tag takes.
-#[unsafe(no_mangle)]
-pub extern "C" fn isap_plan_verify(instance: u32, assoc_len: u32, text_len: u32) -> u64
+pub fn isap_plan_verify(instance: u32, assoc_len: u32, text_len: u32) -> u64
     ensures { PlansVerify instance assoc_len text_len result }
 {
     let planned = plan::plan(instance, assoc_len, text_len);
@@ -55,8 +52,7 @@ pub extern "C" fn isap_plan_verify(instance: u32, assoc_len: u32, text_len: u32)
 }
 
 // The rounds of a sealing.
-#[unsafe(no_mangle)]
-pub extern "C" fn isap_plan_seal(instance: u32, assoc_len: u32, text_len: u32) -> u64
+pub fn isap_plan_seal(instance: u32, assoc_len: u32, text_len: u32) -> u64
     ensures { PlansSeal instance assoc_len text_len result }
 {
     let planned = plan::plan(instance, assoc_len, text_len);
@@ -64,8 +60,7 @@ pub extern "C" fn isap_plan_seal(instance: u32, assoc_len: u32, text_len: u32) -
 }
 
 // The rounds of an opening with a right tag.
-#[unsafe(no_mangle)]
-pub extern "C" fn isap_plan_total(instance: u32, assoc_len: u32, text_len: u32) -> u64
+pub fn isap_plan_total(instance: u32, assoc_len: u32, text_len: u32) -> u64
     ensures { PlansTotal instance assoc_len text_len result }
 {
     let planned = plan::plan(instance, assoc_len, text_len);

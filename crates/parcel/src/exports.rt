@@ -1,4 +1,4 @@
-// For a host in C: numbers and byte slices only. A slice is a pointer and a length.
+// For a host in C, to which crates/parcel_c exports them: numbers and byte slices only.
 ghost use Rattle.std.specs.Prelude.{◌≡◌};
 ghost use Rattle.instances.specs.Schemes.{scheme_of};
 ghost use Rattle.parcel.specs.Reading.{read_of, fields_of};
@@ -7,8 +7,7 @@ ghost use Rattle.parcel.specs.Statements.{BuildsInC, OpensParcelInC, NumberInC, 
 use crate::{Fields, building, opening, reader};
 
 // Number and rounds; the counter to keep is `last + 1` with 0, else `last`.
-#[unsafe(no_mangle)]
-pub extern "C" fn parcel_build(
+pub fn parcel_build(
     instance: u32,
     key: &[u8],
     station: u16,
@@ -22,8 +21,7 @@ pub extern "C" fn parcel_build(
     isap::pack(built.number, built.rounds)
 }
 
-#[unsafe(no_mangle)]
-pub extern "C" fn parcel_open(key: &[u8], parcel: &[u8], out: &mut [u8]) -> u64
+pub fn parcel_open(key: &[u8], parcel: &[u8], out: &mut [u8]) -> u64
     ensures { OpensParcelInC scheme_of key.now parcel.now out.old result out.new }
 {
     let answer = opening::open(key, parcel, out);
@@ -31,8 +29,7 @@ pub extern "C" fn parcel_open(key: &[u8], parcel: &[u8], out: &mut [u8]) -> u64
 }
 
 // The number of a reading, and its fields, all zero on a refusal.
-#[unsafe(no_mangle)]
-pub extern "C" fn parcel_number(parcel: &[u8]) -> u32
+pub fn parcel_number(parcel: &[u8]) -> u32
     ensures { NumberInC parcel.now result }
 {
     reader::number_of(reader::read(parcel))
@@ -44,32 +41,28 @@ fn fields_read(parcel: &[u8]) -> Fields
     reader::fields_of(reader::read(parcel))
 }
 
-#[unsafe(no_mangle)]
-pub extern "C" fn parcel_instance(parcel: &[u8]) -> u32
+pub fn parcel_instance(parcel: &[u8]) -> u32
     ensures { InstanceInC parcel.now result }
 {
     let fields = fields_read(parcel);
     fields.instance
 }
 
-#[unsafe(no_mangle)]
-pub extern "C" fn parcel_station(parcel: &[u8]) -> u16
+pub fn parcel_station(parcel: &[u8]) -> u16
     ensures { StationInC parcel.now result }
 {
     let fields = fields_read(parcel);
     fields.station
 }
 
-#[unsafe(no_mangle)]
-pub extern "C" fn parcel_counter(parcel: &[u8]) -> u64
+pub fn parcel_counter(parcel: &[u8]) -> u64
     ensures { CounterInC parcel.now result }
 {
     let fields = fields_read(parcel);
     fields.counter
 }
 
-#[unsafe(no_mangle)]
-pub extern "C" fn parcel_text(parcel: &[u8]) -> u32
+pub fn parcel_text(parcel: &[u8]) -> u32
     ensures { TextInC parcel.now result }
 {
     let fields = fields_read(parcel);

@@ -97,8 +97,8 @@ none_lines =
 -- 5 bytes of data and 33 of text
 abbrev pub both_input : Input
 both_input =
-    given true (be_bytes 16 0x030a11181f262d343b424950575e656c) (be_bytes 16 0xc8d3dee9f4ff0a15202b36414c57626d) (be_bytes 5 0x01060b1015) (be_bytes 33
-    0x5a5d606366696c6f7275787b7e8184878a8d909396999c9fa2a5a8abaeb1b4b7ba)
+    given true (be_bytes 16 0x030a11181f262d343b424950575e656c) (be_bytes 16 0xc8d3dee9f4ff0a15202b36414c57626d) (be_bytes 5 0x01060b1015) (be_bytes
+    33 0x5a5d606366696c6f7275787b7e8184878a8d909396999c9fa2a5a8abaeb1b4b7ba)
 
 abbrev pub both_begun : Core Machine
 both_begun =
@@ -268,7 +268,8 @@ both_lines =
 -- No data and 5 bytes of text: the second walk has no text call
 abbrev pub short_input : Input
 short_input =
-    given false (be_bytes 16 0x030a11181f262d343b424950575e656c) (be_bytes 16 0xc8d3dee9f4ff0a15202b36414c57626d) (be_bytes 0 0) (be_bytes 5 0x982ba1cfcd)
+    given false (be_bytes 16 0x030a11181f262d343b424950575e656c) (be_bytes 16 0xc8d3dee9f4ff0a15202b36414c57626d) (be_bytes 0 0) (be_bytes 5
+    0x982ba1cfcd)
 
 abbrev pub short_begun : Core Machine
 short_begun =

@@ -11,11 +11,11 @@ const HEAD: &str = "\
 -- Jobs of Spook as the second program has them (tests/second, which writes this file): what each is given, and its records.
 -- Assumes nothing.
 use mathlib.Core.Bool.{true, false}
-use mathlib.Core.List.{List, [], _∷_}
-use Rattle·bits.specs.BigEndian.{beBytes}
-use Rattle·stopping.specs.Course.{Core}
-use Rattle·scheme.specs.Machine.{Machine, Input, given}
-use Rattle·s1p_vectors·specs.specs.Table.{line}
+use mathlib.Core.List.{List, [], ◌∷◌}
+use Rattle.bits.specs.BigEndian.{be_bytes}
+use Rattle.stopping.specs.Course.{Core}
+use Rattle.scheme.specs.Machine.{Machine, Input, given}
+use Rattle.s1p_vectors.specs.Table.{line}
 ";
 
 fn number(bytes: &[u8]) -> String {
@@ -27,7 +27,7 @@ fn number(bytes: &[u8]) -> String {
 }
 
 fn string(bytes: &[u8]) -> String {
-    format!("(beBytes {} {})", bytes.len(), number(bytes))
+    format!("(be_bytes {} {})", bytes.len(), number(bytes))
 }
 
 /// An expression, indented, on as few lines as its words allow.
@@ -68,9 +68,9 @@ fn lines(records: &[Noted]) -> String {
 fn definitions(job: &Job) -> String {
     let (name, records) = (job.name, job.records());
     [
-        format!("\n-- {}\nabbrev pub {name}Input : Input\n{name}Input =\n{}", job.about, input(job)),
-        format!("\nabbrev pub {name}Begun : Core Machine\n{name}Begun =\n{}", line("", &records[0])),
-        format!("\nunfoldable pub {name}Lines : List (Core Machine)\n{name}Lines =\n{}", lines(&records[1..])),
+        format!("\n-- {}\nabbrev pub {name}_input : Input\n{name}_input =\n{}", job.about, input(job)),
+        format!("\nabbrev pub {name}_begun : Core Machine\n{name}_begun =\n{}", line("", &records[0])),
+        format!("\nunfoldable pub {name}_lines : List (Core Machine)\n{name}_lines =\n{}", lines(&records[1..])),
     ]
     .concat()
 }
