@@ -10,7 +10,7 @@ use Rattle.bits.specs.Run.{turns}
 use Rattle.stopping.specs.Stopped.{Call, entered, left}
 use Rattle.stopping.specs.Parts.{Shape, EachSome, rounds_in, call_of}
 use Rattle.stopping.specs.PlaceLaws.{shape-part, place_inside}
-use Rattle.stopping.specs.Places.{Place, place, place_of, part_at, call_at, shape_at}
+use Rattle.stopping.specs.Places.{Place, place_of, part_at, call_at, shape_at}
 use Rattle.stopping.specs.Course.{Course, parts, front_rounds, back_rounds, ending_of, core_at, stands_at, steps, Lawful}
 use Rattle.stopping.specs.Chunks.{some, chunk}
 use Rattle.scheme.specs.Machine.{Machine, machine}

@@ -1,6 +1,6 @@
 -- What was built reads back to its fields, and opens under its key to its text, whatever follows it in the buffer.
 -- Assumes nothing.
-use Rattle.std.specs.Prelude.{◌≡◌, refl, true, false, ℕ, ◌+◌, ◌-◌, ◌≤◌, ◌<◌, replicate, take}
+use Rattle.std.specs.Prelude.{◌≡◌, refl, true, false, ℕ, ◌+◌, ◌≤◌, ◌<◌, replicate, take}
 use Rattle.std.proofs.Common.{sym, ◌∙◌, subst, arith, drop_at, eq-eqb}
 use Rattle.std.proofs.Math.Path.{ap}
 use mathlib.Core.List.{List, ◌++◌, append_assoc}

@@ -1,4 +1,4 @@
-use Rattle.std.proofs.Common.{◌≡◌, ◌-◌, ◌<◌, ◌≤◌, ℕ, suc, ap, sym, ◌∙◌, arith}
+use Rattle.std.proofs.Common.{◌≡◌, ◌-◌, ◌<◌, ℕ, ap, sym, arith}
 use Rattle.task.specs.Turns.{served_of, Going, kept_of}
 use Rattle.task.specs.TurnLaws.{fewer_left}
 use Rattle.isap.specs.declared.Answer.{Answer}
@@ -29,5 +29,5 @@ returns c =
     let a = c.args in
     let l = c.loop-seen in
     let e = at_end a.job a.assoc.now a.text.now a.out.now a.budget a.turns l.invariant.0 (record { turns = l.seen; job = l.kept; out = l.out }) l.invariant.1
-        (omega arith) in
+    (omega arith) in
     (sym (ap kept_of e), sym (ap (λ (g : Going). g.out) e))

@@ -52,6 +52,6 @@ pub returns : goal.returns
 returns c =
     let a = c.args in
     let w : (c.loop-left.left ≡ 0) ⊎ (c.loop-left.current.ending ≡ 0 → ⊥) =
-      elim c.loop-left-test.branch [ else-loop-left-test w ↦ inl (omega arith) | then-loop-left-test+then-current-ne0 w ↦ inr w.if-current-ne0.true ] in
+    elim c.loop-left-test.branch [ else-loop-left-test w ↦ inl (omega arith) | then-loop-left-test+then-current-ne0 w ↦ inr w.if-current-ne0.true ] in
     finishes a.job a.assoc.now a.text.now a.out.now a.budget c.loop-left.left c.loop-left.current c.loop-left.out c.number_of.result
     (sym c.refusal-refused.ensures ∙ c.if-refused-ne0.false) c.loop-left.invariant w c.number_of.ensures
