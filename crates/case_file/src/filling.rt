@@ -15,11 +15,9 @@ fn lowest(x: u64) -> u8 {
 // From the seed on, a step and then its lowest byte for each byte of the buffer. It gives the seed for a next buffer.
 pub fn fill(s: &mut [u8], seed: u64) -> u64 {
     let mut x = seed;
-    let mut i = 0;
-    while i < s.len() {
+    for b in s.iter_mut() {
         x = stirred(x);
-        s[i] = lowest(x);
-        i += 1;
+        *b = lowest(x);
     }
     x
 }
@@ -31,10 +29,8 @@ fn wide(b: u8) -> u64 {
 // From 1 on, each byte is xored in, and a step follows.
 pub fn checksum(s: &[u8]) -> u64 {
     let mut x: u64 = 1;
-    let mut i = 0;
-    while i < s.len() {
-        x = stirred(x ^ wide(s[i]));
-        i += 1;
+    for b in s {
+        x = stirred(x ^ wide(*b));
     }
     x
 }

@@ -1,12 +1,13 @@
 // Cases counted by kind, and what is printed of them. A kind has a number from 1 on; what it is called, each program says itself.
 use crate::verdict;
 use crate::verdict::Verdict;
-use libc::STDOUT_FILENO;
+use std::io;
+use std::io::Write;
 
 // Of so many cases that differ it is said which they are.
 const NAMED: u32 = 5;
 
-#[derive(Drop)]
+#[derive(Clone, Copy)]
 pub struct Tally {
     counts: [u32; 12],
     cases: u32,
@@ -58,56 +59,56 @@ pub fn is_named(t: Tally, v: Verdict) -> bool {
     verdict::differs(v) && t.differences <= NAMED
 }
 
-pub fn say(words: &[u8]) {
-    io::write_all(STDOUT_FILENO, words);
+pub fn say(to: &mut impl Write, words: &[u8]) -> io::Result<()> {
+    to.write_all(words)
 }
 
-fn say_number(n: u32) {
-    io::print_decimal(STDOUT_FILENO, n as u64);
+fn say_number(to: &mut impl Write, n: u32) -> io::Result<()> {
+    write!(to, "{n}")
 }
 
-fn say_what(what: u32) {
+fn say_what(to: &mut impl Write, what: u32) -> io::Result<()> {
     match what {
-        verdict::NUMBER => say(b"number"),
-        verdict::ROUNDS => say(b"rounds"),
-        verdict::OUTPUT => say(b"output"),
-        verdict::TAG => say(b"tag"),
-        verdict::RECORD => say(b"record"),
-        verdict::COUNTER => say(b"counter"),
-        verdict::READING => say(b"reading"),
-        verdict::FIELDS => say(b"fields"),
-        _ => say(b"ciphertext"),
+        verdict::NUMBER => say(to, b"number"),
+        verdict::ROUNDS => say(to, b"rounds"),
+        verdict::OUTPUT => say(to, b"output"),
+        verdict::TAG => say(to, b"tag"),
+        verdict::RECORD => say(to, b"record"),
+        verdict::COUNTER => say(to, b"counter"),
+        verdict::READING => say(to, b"reading"),
+        verdict::FIELDS => say(to, b"fields"),
+        _ => say(to, b"ciphertext"),
     }
 }
 
 // Case 17 (whole calls refused), call 1: rounds different. The name of the kind is said between these two.
-pub fn say_case(t: Tally) {
-    say(b"case ");
-    say_number(t.cases);
-    say(b" (");
+pub fn say_case(to: &mut impl Write, t: Tally) -> io::Result<()> {
+    say(to, b"case ")?;
+    say_number(to, t.cases)?;
+    say(to, b" (")
 }
 
-pub fn say_difference(v: Verdict) {
-    say(b"), call ");
-    say_number(v.call);
-    say(b": ");
-    say_what(v.what);
-    say(b" different\n");
+pub fn say_difference(to: &mut impl Write, v: Verdict) -> io::Result<()> {
+    say(to, b"), call ")?;
+    say_number(to, v.call)?;
+    say(to, b": ")?;
+    say_what(to, v.what)?;
+    say(to, b" different\n")
 }
 
 // What stands behind the name of a kind.
-pub fn say_count(t: Tally, kind: u32) {
-    say(b": ");
+pub fn say_count(to: &mut impl Write, t: Tally, kind: u32) -> io::Result<()> {
+    say(to, b": ")?;
     let counts = t.counts;
     let i = kind as usize;
     if i < 12 {
-        say_number(counts[i]);
+        say_number(to, counts[i])?;
     }
-    say(b"\n");
+    say(to, b"\n")
 }
 
-pub fn say_differences(t: Tally) {
-    say(b"differences: ");
-    say_number(t.differences);
-    say(b"\n");
+pub fn say_differences(to: &mut impl Write, t: Tally) -> io::Result<()> {
+    say(to, b"differences: ")?;
+    say_number(to, t.differences)?;
+    say(to, b"\n")
 }

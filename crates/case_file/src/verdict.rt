@@ -1,7 +1,9 @@
 // What a case shows: the first thing that differs, and in which of its calls.
 use crate::reading;
+use std::io;
+use std::io::Read;
 
-#[derive(Drop)]
+#[derive(Clone, Copy)]
 pub struct Verdict {
     pub what: u32,
     // counted from 1; 0 is a beginning
@@ -51,17 +53,17 @@ pub fn then(v: Verdict, same: bool, what: u32, call: u32) -> Verdict {
 }
 
 // An answer's number and rounds.
-#[derive(Drop)]
+#[derive(Clone, Copy)]
 pub struct Said {
     pub number: u32,
     pub rounds: u32,
 }
 
 // As a file has it: the number (one byte), the rounds (two).
-pub fn read_said() -> Said {
-    let number = reading::byte();
-    let rounds = reading::pair();
-    Said { number, rounds }
+pub fn read_said(input: &mut impl Read) -> io::Result<Said> {
+    let number = reading::byte(input)?;
+    let rounds = reading::pair(input)?;
+    Ok(Said { number, rounds })
 }
 
 pub fn then_said(v: Verdict, said: Said, expected: Said, call: u32) -> Verdict {

@@ -8,16 +8,17 @@ ghost use Rattle.std.specs.Prelude.{◌≤◌};
 
 use heartbeats::heartbeat;
 use isap::Job;
-use libc::STDOUT_FILENO;
+use std::io;
+use std::io::Write;
 
-#[derive(Drop)]
+#[derive(Clone, Copy)]
 struct Sealed {
     out: [u8; 8],
     tag: [u8; 16],
 }
 
 // A job on its way through slices.
-#[derive(Drop)]
+#[derive(Clone, Copy)]
 struct Course {
     number: u32,
     // the sum of what the slices said they did
@@ -29,42 +30,31 @@ struct Course {
     job: Job,
 }
 
-fn say(words: &[u8]) {
-    io::write_all(STDOUT_FILENO, words);
+fn say(to: &mut impl Write, words: &[u8]) -> io::Result<()> {
+    to.write_all(words)
 }
 
-fn say_number(words: &[u8], n: u64) {
-    say(words);
-    io::print_decimal(STDOUT_FILENO, n);
+fn say_number(to: &mut impl Write, words: &[u8], n: u64) -> io::Result<()> {
+    say(to, words)?;
+    write!(to, "{n}")
 }
 
-fn say_answer(number: u32, rounds: u32) {
-    say_number(b": number ", number as u64);
-    say_number(b", rounds ", rounds as u64);
+fn say_answer(to: &mut impl Write, number: u32, rounds: u32) -> io::Result<()> {
+    say_number(to, b": number ", number as u64)?;
+    say_number(to, b", rounds ", rounds as u64)
 }
 
-fn say_same(words: &[u8], same: bool) {
-    say(words);
+fn say_same(to: &mut impl Write, words: &[u8], same: bool) -> io::Result<()> {
+    say(to, words)?;
     if same {
-        say(b" same");
+        say(to, b" same")
     } else {
-        say(b" different");
+        say(to, b" different")
     }
 }
 
 fn same(a: &[u8], b: &[u8]) -> bool {
-    if a.len() != b.len() {
-        return false;
-    }
-    let mut equal = true;
-    let mut i = 0;
-    while i < a.len() {
-        if a[i] != b[i] {
-            equal = false;
-        }
-        i += 1;
-    }
-    equal
+    a == b
 }
 
 fn same_eight(a: [u8; 8], b: [u8; 8]) -> bool {
@@ -119,7 +109,7 @@ fn step(c: Course, input: [u8; 8], budget: u32) -> Course {
     let job = c.job;
     let done = isap::slice(job, b"", &input, &mut out, budget);
     let next = done.job;
-    let rounds = std::num::wrapping_add_u32(c.rounds, done.rounds);
+    let rounds = c.rounds.wrapping_add(done.rounds);
     let untouched = if same_eight(out, blank()) {
         rounds
     } else {
@@ -151,54 +141,54 @@ fn run(job: Job, input: [u8; 8], budget: u32) -> Course {
         out,
         job,
     };
-    let mut slices: u32 = 0;
-    while slices < 400 && c.number == 100 {
+    for _ in 0..400 {
+        if c.number != 100 {
+            break;
+        }
         c = step(c, input, budget);
-        slices += 1;
     }
     c
 }
 
-fn say_output(c: Course) {
+fn say_output(to: &mut impl Write, c: Course) -> io::Result<()> {
     let out = c.out;
     if same_eight(out, blank()) {
-        say(b", output untouched");
-        return;
+        return say(to, b", output untouched");
     }
-    say_number(b", output untouched after ", c.untouched as u64);
-    say_number(b", written after ", c.written as u64);
+    say_number(to, b", output untouched after ", c.untouched as u64)?;
+    say_number(to, b", written after ", c.written as u64)
 }
 
-fn say_lengths(words: &[u8], a: u64, m: u64) {
-    say(words);
-    say_number(b", a = ", a);
-    say_number(b", m = ", m);
+fn say_lengths(to: &mut impl Write, words: &[u8], a: u64, m: u64) -> io::Result<()> {
+    say(to, words)?;
+    say_number(to, b", a = ", a)?;
+    say_number(to, b", m = ", m)
 }
 
-fn beginning(a: u32, m: u32) {
+fn beginning(to: &mut impl Write, a: u32, m: u32) -> io::Result<()> {
     let k = key();
     let n = nonce();
     let begun = isap::begin_seal(1, &k, &n, a, m);
-    say_lengths(b"beginning a sealing", a as u64, m as u64);
-    say_number(b": number ", begun.number as u64);
-    say(b"\n");
+    say_lengths(to, b"beginning a sealing", a as u64, m as u64)?;
+    say_number(to, b": number ", begun.number as u64)?;
+    say(to, b"\n")
 }
 
-fn whole(assoc: &[u8], input: &[u8], out: &mut [u8]) {
+fn whole(to: &mut impl Write, assoc: &[u8], input: &[u8], out: &mut [u8]) -> io::Result<()> {
     let k = key();
     let n = nonce();
     let mut tag = [0u8; 16];
     let answer = isap::seal(1, &k, &n, assoc, input, out, &mut tag);
-    say_lengths(b"sealing whole", assoc.len() as u64, input.len() as u64);
-    say_answer(answer.number, answer.rounds);
-    say(b"\n");
+    say_lengths(to, b"sealing whole", assoc.len() as u64, input.len() as u64)?;
+    say_answer(to, answer.number, answer.rounds)?;
+    say(to, b"\n")
 }
 
-fn beginnings_at_the_limits() {
-    beginning(257, 8);
-    beginning(0, 1048577);
-    beginning(257, 1048577);
-    beginning(256, 1048576);
+fn beginnings_at_the_limits(to: &mut impl Write) -> io::Result<()> {
+    beginning(to, 257, 8)?;
+    beginning(to, 0, 1048577)?;
+    beginning(to, 257, 1048577)?;
+    beginning(to, 256, 1048576)
 }
 
 // A byte more than the longest text. A function of its own: an array written out where it is used is one that the prover unfolds.
@@ -206,133 +196,145 @@ fn too_long() -> [u8; 1048577] {
     [0u8; 1048577]
 }
 
-fn whole_image(bytes: usize)
+fn whole_image(to: &mut impl Write, bytes: usize) -> io::Result<()>
     requires { bytes ≤ 1048577 }
 {
     let image = too_long();
     let mut out = too_long();
-    whole(b"", &image[0..bytes], &mut out[0..bytes]);
+    whole(to, b"", &image[0..bytes], &mut out[0..bytes])
 }
 
-fn whole_calls_with_too_much_data() {
+fn whole_calls_with_too_much_data(to: &mut impl Write) -> io::Result<()> {
     let assoc = [0u8; 257];
     let short = [0u8; 8];
     let mut short_out = [0u8; 8];
-    whole(&assoc, &short, &mut short_out);
+    whole(to, &assoc, &short, &mut short_out)?;
     let long = too_long();
     let mut long_out = too_long();
-    whole(&assoc, &long, &mut long_out);
+    whole(to, &assoc, &long, &mut long_out)
 }
 
-fn seal_whole() -> Sealed {
+fn seal_whole(to: &mut impl Write) -> io::Result<Sealed> {
     let k = key();
     let n = nonce();
     let t = text();
     let mut out = blank();
     let mut tag = [0u8; 16];
     let answer = isap::seal(1, &k, &n, b"", &t, &mut out, &mut tag);
-    say(b"sealing whole");
-    say_answer(answer.number, answer.rounds);
-    say(b"\n");
-    Sealed { out, tag }
+    say(to, b"sealing whole")?;
+    say_answer(to, answer.number, answer.rounds)?;
+    say(to, b"\n")?;
+    Ok(Sealed { out, tag })
 }
 
 // Hands back the ended record.
-fn seal_sliced(whole: Sealed, budget: u32) -> Job {
+fn seal_sliced(to: &mut impl Write, whole: Sealed, budget: u32) -> io::Result<Job> {
     let c = run(sealing(), text(), budget);
-    say_number(b"sealing in slices of ", budget as u64);
-    say_answer(c.number, c.rounds);
-    say_output(c);
+    say_number(to, b"sealing in slices of ", budget as u64)?;
+    say_answer(to, c.number, c.rounds)?;
+    say_output(to, c)?;
     let ended = c.job;
     let out = c.out;
     let whole_out = whole.out;
     let tag = ended.tag;
     let whole_tag = whole.tag;
-    say_same(b", ciphertext", same_eight(out, whole_out));
-    say_same(b", tag", same_tag(tag, whole_tag));
-    say(b"\n");
-    ended
+    say_same(to, b", ciphertext", same_eight(out, whole_out))?;
+    say_same(to, b", tag", same_tag(tag, whole_tag))?;
+    say(to, b"\n")?;
+    Ok(ended)
 }
 
-fn open_whole(words: &[u8], input: [u8; 8], tag: [u8; 16]) -> [u8; 8] {
+fn open_whole(
+    to: &mut impl Write,
+    words: &[u8],
+    input: [u8; 8],
+    tag: [u8; 16],
+) -> io::Result<[u8; 8]> {
     let k = key();
     let n = nonce();
     let mut out = blank();
     let answer = isap::open(1, &k, &n, b"", &input, &tag, &mut out);
-    say(b"opening whole, ");
-    say(words);
-    say_answer(answer.number, answer.rounds);
-    out
+    say(to, b"opening whole, ")?;
+    say(to, words)?;
+    say_answer(to, answer.number, answer.rounds)?;
+    Ok(out)
 }
 
-fn open_sliced(words: &[u8], input: [u8; 8], tag: [u8; 16], budget: u32) -> Course {
+fn open_sliced(
+    to: &mut impl Write,
+    words: &[u8],
+    input: [u8; 8],
+    tag: [u8; 16],
+    budget: u32,
+) -> io::Result<Course> {
     let c = run(opening(tag), input, budget);
-    say_number(b"opening in slices of ", budget as u64);
-    say(b", ");
-    say(words);
-    say_answer(c.number, c.rounds);
-    say_output(c);
-    c
+    say_number(to, b"opening in slices of ", budget as u64)?;
+    say(to, b", ")?;
+    say(to, words)?;
+    say_answer(to, c.number, c.rounds)?;
+    say_output(to, c)?;
+    Ok(c)
 }
 
-fn opened_whole(s: Sealed) {
+fn opened_whole(to: &mut impl Write, s: Sealed) -> io::Result<()> {
     let input = s.out;
     let tag = s.tag;
-    let kept = open_whole(b"wrong tag", input, wrong(tag));
-    say_same(b", output and what it held", same_eight(kept, blank()));
-    say(b"\n");
-    let opened = open_whole(b"right tag", input, tag);
-    say_same(b", output and text", same_eight(opened, text()));
-    say(b"\n");
+    let kept = open_whole(to, b"wrong tag", input, wrong(tag))?;
+    say_same(to, b", output and what it held", same_eight(kept, blank()))?;
+    say(to, b"\n")?;
+    let opened = open_whole(to, b"right tag", input, tag)?;
+    say_same(to, b", output and text", same_eight(opened, text()))?;
+    say(to, b"\n")
 }
 
 // Hands back the record that a wrong tag ended.
-fn opened_sliced(s: Sealed, budget: u32) -> Job {
+fn opened_sliced(to: &mut impl Write, s: Sealed, budget: u32) -> io::Result<Job> {
     let input = s.out;
     let tag = s.tag;
-    let kept = open_sliced(b"wrong tag", input, wrong(tag), budget);
-    say(b"\n");
-    let opened = open_sliced(b"right tag", input, tag, budget);
+    let kept = open_sliced(to, b"wrong tag", input, wrong(tag), budget)?;
+    say(to, b"\n")?;
+    let opened = open_sliced(to, b"right tag", input, tag, budget)?;
     let out = opened.out;
-    say_same(b", output and text", same_eight(out, text()));
-    say(b"\n");
-    kept.job
+    say_same(to, b", output and text", same_eight(out, text()))?;
+    say(to, b"\n")?;
+    Ok(kept.job)
 }
 
 // One slice, and whether it left the output alone.
-fn once(words: &[u8], job: Job, budget: u32) {
+fn once(to: &mut impl Write, words: &[u8], job: Job, budget: u32) -> io::Result<()> {
     let t = text();
     let mut out = blank();
     let done = isap::slice(job, b"", &t, &mut out, budget);
-    say(words);
-    say_number(b", budget ", budget as u64);
-    say_answer(done.number, done.rounds);
-    say_same(b", output and what it held", same_eight(out, blank()));
-    say(b"\n");
+    say(to, words)?;
+    say_number(to, b", budget ", budget as u64)?;
+    say_answer(to, done.number, done.rounds)?;
+    say_same(to, b", output and what it held", same_eight(out, blank()))?;
+    say(to, b"\n")
 }
 
-fn main() {
-    beginnings_at_the_limits();
-    whole_calls_with_too_much_data();
-    whole_image(1048575);
-    whole_image(1048576);
-    whole_image(1048577);
-    let s = seal_whole();
-    seal_sliced(s, 1);
-    seal_sliced(s, 7);
-    let ended = seal_sliced(s, 1000);
-    opened_whole(s);
-    opened_sliced(s, 1);
-    opened_sliced(s, 7);
-    let stopped = opened_sliced(s, 1000);
-    once(b"a sealing begun", sealing(), 0);
+fn main(rt: HostRuntime) -> io::Result<()> {
+    let to = &mut rt.stdout();
+    beginnings_at_the_limits(to)?;
+    whole_calls_with_too_much_data(to)?;
+    whole_image(to, 1048575)?;
+    whole_image(to, 1048576)?;
+    whole_image(to, 1048577)?;
+    let s = seal_whole(to)?;
+    seal_sliced(to, s, 1)?;
+    seal_sliced(to, s, 7)?;
+    let ended = seal_sliced(to, s, 1000)?;
+    opened_whole(to, s)?;
+    opened_sliced(to, s, 1)?;
+    opened_sliced(to, s, 7)?;
+    let stopped = opened_sliced(to, s, 1000)?;
+    once(to, b"a sealing begun", sealing(), 0)?;
     let tag = s.tag;
-    once(b"an opening begun", opening(tag), 0);
-    once(b"a sealing ended", ended, 1);
-    once(b"an opening ended by a wrong tag", stopped, 1);
-    heartbeat(1);
-    heartbeat(2);
-    heartbeat(3);
-    heartbeat(4);
-    heartbeat(5);
+    once(to, b"an opening begun", opening(tag), 0)?;
+    once(to, b"a sealing ended", ended, 1)?;
+    once(to, b"an opening ended by a wrong tag", stopped, 1)?;
+    heartbeat(to, 1)?;
+    heartbeat(to, 2)?;
+    heartbeat(to, 3)?;
+    heartbeat(to, 4)?;
+    heartbeat(to, 5)
 }

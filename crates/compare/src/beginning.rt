@@ -7,12 +7,14 @@ use case_file::strings::first;
 use case_file::verdict::{NUMBER, RECORD, ROUNDS};
 use case_file::{reading, verdict};
 use isap::Begun;
+use std::io;
+use std::io::Read;
 
 // The tag that is lent: 16 bytes from the file, with zeros behind them.
-fn lent_tag() -> [u8; 32] {
+fn lent_tag(input: &mut impl Read) -> io::Result<[u8; 32]> {
     let mut tag = [0u8; 32];
-    reading::string_at(&mut tag, 0, 16);
-    tag
+    reading::string_at(input, &mut tag, 0, 16)?;
+    Ok(tag)
 }
 
 fn begin(
@@ -30,16 +32,16 @@ fn begin(
     isap::begin_open(instance, key, nonce, tag, a, m)
 }
 
-fn begun(direction: u32, instance: u32, room: Room) -> Begun {
+fn begun(input: &mut impl Read, direction: u32, instance: u32, room: Room) -> io::Result<Begun> {
     let key = room.key;
     let nonce = room.nonce;
-    let k = reading::byte();
-    let n = reading::byte();
-    let t = reading::byte();
-    let a = reading::four();
-    let m = reading::four();
-    let tag = lent_tag();
-    begin(
+    let k = reading::byte(input)?;
+    let n = reading::byte(input)?;
+    let t = reading::byte(input)?;
+    let a = reading::four(input)?;
+    let m = reading::four(input)?;
+    let tag = lent_tag(input)?;
+    Ok(begin(
         direction,
         instance,
         first(&key, k),
@@ -47,18 +49,18 @@ fn begun(direction: u32, instance: u32, room: Room) -> Begun {
         first(&tag, t),
         a,
         m,
-    )
+    ))
 }
 
 // A beginning, and its slices if the case has any.
-pub fn case(sliced: bool) -> Went {
-    let direction = reading::byte();
-    let instance = reading::four();
-    let room = filled(reading::eight());
-    let begun = begun(direction, instance, room);
-    let number = reading::byte();
+pub fn case(input: &mut impl Read, sliced: bool) -> io::Result<Went> {
+    let direction = reading::byte(input)?;
+    let instance = reading::four(input)?;
+    let room = filled(reading::eight(input)?);
+    let begun = begun(input, direction, instance, room)?;
+    let number = reading::byte(input)?;
     let mut bytes = [0u8; 212];
-    reading::string(&mut bytes);
+    reading::string(input, &mut bytes)?;
     let job = begun.job;
     let numbered = verdict::then(verdict::no_difference(), begun.number == number, NUMBER, 0);
     let idle = verdict::then(numbered, begun.rounds == 0, ROUNDS, 0);
@@ -69,7 +71,7 @@ pub fn case(sliced: bool) -> Went {
         slices: 0,
     };
     if !sliced {
-        return start;
+        return Ok(start);
     }
-    jobs::slices(start, room, bytes)
+    jobs::slices(input, start, room, bytes)
 }

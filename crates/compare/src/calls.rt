@@ -4,7 +4,7 @@ use case_file::strings::{first, within};
 use case_file::verdict::Said;
 
 // The instance and the lengths that are lent.
-#[derive(Drop)]
+#[derive(Clone, Copy)]
 pub struct Lent {
     pub instance: u32,
     pub key: u32,

@@ -5,9 +5,11 @@ use case_file::strings::{first, same, within};
 use case_file::verdict::{OUTPUT, RECORD, Said, Verdict};
 use case_file::{reading, verdict};
 use isap::{Job, Sliced};
+use std::io;
+use std::io::Read;
 
 // A job, what its slices showed, and how many there were.
-#[derive(Drop)]
+#[derive(Clone, Copy)]
 pub struct Went {
     pub job: Job,
     pub verdict: Verdict,
@@ -15,30 +17,30 @@ pub struct Went {
 }
 
 // What a slice changes: runs of bytes, each with its place and its length. Numbers of a record's runs are short.
-fn change(s: &mut [u8], short: bool) {
+fn change(input: &mut impl Read, s: &mut [u8], short: bool) -> io::Result<()> {
     let at = if short {
-        reading::byte()
+        reading::byte(input)?
     } else {
-        reading::pair()
+        reading::pair(input)?
     };
     let count = if short {
-        reading::byte()
+        reading::byte(input)?
     } else {
-        reading::pair()
+        reading::pair(input)?
     };
-    reading::string_at(s, at as usize, count as usize);
+    reading::string_at(input, s, at as usize, count as usize)
 }
 
-fn changes(s: &mut [u8], short: bool) {
-    let mut runs = reading::byte();
-    while 0 < runs {
-        change(s, short);
-        runs -= 1;
+fn changes(input: &mut impl Read, s: &mut [u8], short: bool) -> io::Result<()> {
+    let runs = reading::byte(input)?;
+    for _ in 0..runs {
+        change(input, s, short)?;
     }
+    Ok(())
 }
 
 // What a slice is lent and allowed, and what it must answer.
-#[derive(Drop)]
+#[derive(Clone, Copy)]
 struct Cut {
     assoc: u32,
     text: u32,
@@ -47,19 +49,19 @@ struct Cut {
     answer: Said,
 }
 
-fn read_cut() -> Cut {
-    let assoc = reading::pair();
-    let text = reading::pair();
-    let out = reading::pair();
-    let budget = reading::four();
-    let answer = verdict::read_said();
-    Cut {
+fn read_cut(input: &mut impl Read) -> io::Result<Cut> {
+    let assoc = reading::pair(input)?;
+    let text = reading::pair(input)?;
+    let out = reading::pair(input)?;
+    let budget = reading::four(input)?;
+    let answer = verdict::read_said(input)?;
+    Ok(Cut {
         assoc,
         text,
         out,
         budget,
         answer,
-    }
+    })
 }
 
 fn slice(job: Job, assoc: &[u8], text: &[u8], out: &mut [u8], cut: Cut) -> Sliced {
@@ -82,57 +84,70 @@ fn said(done: Sliced) -> Said {
 
 // One slice of a job; `written` and `bytes` are what the output and the record must be, before it and then after it.
 fn one_slice(
+    input: &mut impl Read,
     went: Went,
     assoc: &[u8; 512],
     text: &[u8; 4200],
     out: &mut [u8; 4200],
     written: &mut [u8; 4200],
     bytes: &mut [u8; 212],
-) -> Went {
-    let cut = read_cut();
-    changes(&mut bytes[..], true);
-    changes(&mut written[..], false);
+) -> io::Result<Went> {
+    let cut = read_cut(input)?;
+    changes(input, &mut bytes[..], true)?;
+    changes(input, &mut written[..], false)?;
     let job = went.job;
     let done = slice(job, &assoc[..], &text[..], &mut out[..], cut);
     let next = done.job;
-    let call = std::num::wrapping_add_u32(went.slices, 1);
+    let call = went.slices.wrapping_add(1);
     let before = went.verdict;
     let answer = cut.answer;
     let answered = verdict::then_said(before, said(done), answer, call);
     let recorded = verdict::then(answered, same_record(next, bytes), RECORD, call);
     let verdict = verdict::then(recorded, same(&out[..], &written[..]), OUTPUT, call);
-    Went {
+    Ok(Went {
         job: next,
         verdict,
         slices: call,
-    }
+    })
 }
 
-pub fn slices(start: Went, room: Room, record: [u8; 212]) -> Went {
+pub fn slices(
+    input: &mut impl Read,
+    start: Went,
+    room: Room,
+    record: [u8; 212],
+) -> io::Result<Went> {
     let assoc = room.assoc;
     let text = room.text;
     let mut out = room.out;
     let mut written = room.out;
     let mut bytes = record;
     let mut went = start;
-    let mut left = reading::pair();
-    while 0 < left {
-        went = one_slice(went, &assoc, &text, &mut out, &mut written, &mut bytes);
-        left -= 1;
+    let count = reading::pair(input)?;
+    for _ in 0..count {
+        went = one_slice(
+            input,
+            went,
+            &assoc,
+            &text,
+            &mut out,
+            &mut written,
+            &mut bytes,
+        )?;
     }
-    went
+    Ok(went)
 }
 
 // A forged record and its slices.
-pub fn forged() -> Went {
-    let room = filled(reading::eight());
+pub fn forged(input: &mut impl Read) -> io::Result<Went> {
+    let room = filled(reading::eight(input)?);
     let mut bytes = [0u8; 212];
-    reading::string(&mut bytes);
+    reading::string(input, &mut bytes)?;
     let job = record(&bytes);
     let start = Went {
         job,
         verdict: verdict::no_difference(),
         slices: 0,
     };
-    slices(start, room, bytes)
+    slices(input, start, room, bytes)
 }

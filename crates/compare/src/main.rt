@@ -17,9 +17,11 @@ use case_file::tally::Tally;
 use case_file::verdict::Verdict;
 use case_file::{reading, tally};
 use jobs::Went;
+use std::io;
+use std::io::{Read, Write};
 
 // What a case showed, and how many slices it had.
-#[derive(Drop)]
+#[derive(Clone, Copy)]
 struct Outcome {
     verdict: Verdict,
     slices: u32,
@@ -37,40 +39,40 @@ fn sliced(went: Went) -> Outcome {
     }
 }
 
-fn case_of(kind: u32) -> Outcome {
+fn case_of(input: &mut impl Read, kind: u32) -> io::Result<Outcome> {
     if kind == reports::MESSAGE {
-        return unsliced(messages::case());
+        return Ok(unsliced(messages::case(input)?));
     }
     if kind == reports::WHOLE_REFUSED {
-        return unsliced(refused::case());
+        return Ok(unsliced(refused::case(input)?));
     }
     if kind == reports::BEGINNING_REFUSED {
-        return sliced(beginning::case(false));
+        return Ok(sliced(beginning::case(input, false)?));
     }
     if kind < reports::BEGINNING_REFUSED {
-        return sliced(beginning::case(true));
+        return Ok(sliced(beginning::case(input, true)?));
     }
-    sliced(jobs::forged())
+    Ok(sliced(jobs::forged(input)?))
 }
 
-// A proved loop has to end: it counts down from a number that no file uses up.
-fn run() -> Tally {
+// A proved loop has to end: it has more turns than any file uses up.
+fn run(input: &mut impl Read, to: &mut impl Write) -> io::Result<Tally> {
     let mut tally = tally::nothing_yet();
-    let mut turns = u32::MAX;
-    while 0 < turns {
-        let kind = reading::byte();
+    for _ in 0..u32::MAX {
+        let kind = reading::byte(input)?;
         if !reports::known(kind) {
-            return tally;
+            break;
         }
-        let shown = case_of(kind);
+        let shown = case_of(input, kind)?;
         let verdict = shown.verdict;
-        tally = reports::counted(tally, kind, verdict, shown.slices);
-        turns -= 1;
+        tally = reports::counted(to, tally, kind, verdict, shown.slices)?;
     }
-    tally
+    Ok(tally)
 }
 
-fn main() {
-    let tally = run();
-    reports::say_all(tally);
+fn main(rt: HostRuntime) -> io::Result<()> {
+    let mut input = rt.stdin();
+    let mut to = rt.stdout();
+    let tally = run(&mut input, &mut to)?;
+    reports::say_all(&mut to, tally)
 }

@@ -6,6 +6,8 @@ use crate::shown::as_shown;
 use case_file::strings::{damage, first, same};
 use case_file::verdict::{OUTPUT, Said, TAG, Verdict};
 use case_file::{reading, verdict};
+use std::io;
+use std::io::Read;
 
 // What is damaged, as the file numbers it.
 const KEY: u32 = 0;
@@ -22,7 +24,7 @@ const INSTANCE: u32 = 5;
 
 const SHORTER: u32 = 6;
 
-#[derive(Drop)]
+#[derive(Clone, Copy)]
 struct Harm {
     what: u32,
     at: u32,
@@ -32,34 +34,34 @@ struct Harm {
 }
 
 // What the calls of a message are lent, and its tag.
-#[derive(Drop)]
+#[derive(Clone, Copy)]
 struct Message {
     lent: Lent,
     room: Room,
     tag: [u8; 16],
 }
 
-fn sixteen_bytes() -> [u8; 16] {
+fn sixteen_bytes(input: &mut impl Read) -> io::Result<[u8; 16]> {
     let mut s = [0u8; 16];
-    reading::string(&mut s);
-    s
+    reading::string(input, &mut s)?;
+    Ok(s)
 }
 
 fn byte_of(n: u32) -> u8 {
     (n % 256) as u8
 }
 
-fn read_harm() -> Harm {
-    let what = reading::byte();
-    let at = reading::pair();
-    let bits = byte_of(reading::byte());
-    let rounds = reading::pair();
-    Harm {
+fn read_harm(input: &mut impl Read) -> io::Result<Harm> {
+    let what = reading::byte(input)?;
+    let at = reading::pair(input)?;
+    let bits = byte_of(reading::byte(input)?);
+    let rounds = reading::pair(input)?;
+    Ok(Harm {
         what,
         at,
         bits,
         rounds,
-    }
+    })
 }
 
 // Key, nonce and tag of 16 bytes, and an output as long as the text.
@@ -75,7 +77,7 @@ fn lent(instance: u32, assoc: u32, text: u32) -> Lent {
     }
 }
 
-fn sealed(m: Message, out: &mut [u8], rounds: u32) -> Verdict {
+fn sealed(input: &mut impl Read, m: Message, out: &mut [u8], rounds: u32) -> io::Result<Verdict> {
     let lent = m.lent;
     let room = m.room;
     let tag = m.tag;
@@ -85,7 +87,12 @@ fn sealed(m: Message, out: &mut [u8], rounds: u32) -> Verdict {
     let expected = Said { number: 0, rounds };
     let answered = verdict::then_said(verdict::no_difference(), said, expected, 1);
     let tagged = verdict::then(answered, same(&made, &tag), TAG, 1);
-    verdict::then(tagged, as_shown(first(&out[..], lent.text)), OUTPUT, 1)
+    Ok(verdict::then(
+        tagged,
+        as_shown(input, first(&out[..], lent.text))?,
+        OUTPUT,
+        1,
+    ))
 }
 
 // The message as it is received: the ciphertext is its text.
@@ -185,15 +192,15 @@ fn opened_damaged(before: Verdict, m: Message, rounds: u32) -> Verdict {
     verdict::then(answered, same(&out, &kept), OUTPUT, 3)
 }
 
-pub fn case() -> Verdict {
-    let instance = reading::byte();
-    let assoc = reading::pair();
-    let text = reading::pair();
-    let room = filled(reading::eight());
-    let sealing = reading::pair();
-    let opening = reading::pair();
-    let d = read_harm();
-    let tag = sixteen_bytes();
+pub fn case(input: &mut impl Read) -> io::Result<Verdict> {
+    let instance = reading::byte(input)?;
+    let assoc = reading::pair(input)?;
+    let text = reading::pair(input)?;
+    let room = filled(reading::eight(input)?);
+    let sealing = reading::pair(input)?;
+    let opening = reading::pair(input)?;
+    let d = read_harm(input)?;
+    let tag = sixteen_bytes(input)?;
     let m = Message {
         lent: lent(instance, assoc, text),
         room,
@@ -201,8 +208,8 @@ pub fn case() -> Verdict {
     };
     let plain = room.text;
     let mut out = room.out;
-    let first_call = sealed(m, &mut out, sealing);
+    let first_call = sealed(input, m, &mut out, sealing)?;
     let r = received(m, out);
     let second_call = opened(first_call, r, plain, opening);
-    opened_damaged(second_call, damaged(r, d), d.rounds)
+    Ok(opened_damaged(second_call, damaged(r, d), d.rounds))
 }

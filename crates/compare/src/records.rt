@@ -20,10 +20,8 @@ fn sixteen(s: &[u8; 212], at: usize) -> [u8; 16]
     requires { at + 16 ≤ 212 }
 {
     let mut t = [0u8; 16];
-    let mut i = 0;
-    while i < 16 {
+    for i in 0..16 {
         t[i] = s[at + i];
-        i += 1;
     }
     t
 }
@@ -32,10 +30,8 @@ fn sixty_four(s: &[u8; 212], at: usize) -> [u8; 64]
     requires { at + 64 ≤ 212 }
 {
     let mut t = [0u8; 64];
-    let mut i = 0;
-    while i < 64 {
+    for i in 0..64 {
         t[i] = s[at + i];
-        i += 1;
     }
     t
 }

@@ -6,15 +6,17 @@ use crate::room::{Room, filled};
 use case_file::strings::{first, same};
 use case_file::verdict::{OUTPUT, Said, TAG, Verdict};
 use case_file::{reading, verdict};
+use std::io;
+use std::io::Read;
 
-fn read_lent(instance: u32) -> Lent {
-    let key = reading::byte();
-    let nonce = reading::byte();
-    let assoc = reading::pair();
-    let text = reading::four();
-    let out = reading::four();
-    let tag = reading::byte();
-    Lent {
+fn read_lent(input: &mut impl Read, instance: u32) -> io::Result<Lent> {
+    let key = reading::byte(input)?;
+    let nonce = reading::byte(input)?;
+    let assoc = reading::pair(input)?;
+    let text = reading::four(input)?;
+    let out = reading::four(input)?;
+    let tag = reading::byte(input)?;
+    Ok(Lent {
         instance,
         key,
         nonce,
@@ -22,7 +24,7 @@ fn read_lent(instance: u32) -> Lent {
         text,
         out,
         tag,
-    }
+    })
 }
 
 // Functions of their own: an array written out where it is used is one that the prover unfolds.
@@ -34,7 +36,7 @@ fn long_out() -> [u8; 1048704] {
     [170u8; 1048704]
 }
 
-#[derive(Drop)]
+#[derive(Clone, Copy)]
 struct Trial {
     direction: u32,
     lent: Lent,
@@ -49,18 +51,18 @@ fn call(c: Trial, text: &[u8], out: &mut [u8], tag: &mut [u8]) -> Said {
     calls::open(c.lent, c.room, text, out, &tag[..])
 }
 
-fn read_trial() -> Trial {
-    let direction = reading::byte();
-    let instance = reading::four();
-    let room = filled(reading::eight());
-    let lent = read_lent(instance);
-    let number = reading::byte();
-    Trial {
+fn read_trial(input: &mut impl Read) -> io::Result<Trial> {
+    let direction = reading::byte(input)?;
+    let instance = reading::four(input)?;
+    let room = filled(reading::eight(input)?);
+    let lent = read_lent(input, instance)?;
+    let number = reading::byte(input)?;
+    Ok(Trial {
         direction,
         lent,
         room,
         number,
-    }
+    })
 }
 
 fn refused(c: Trial, text: &[u8], before: &[u8], out: &mut [u8]) -> Verdict {
@@ -82,9 +84,9 @@ fn refused(c: Trial, text: &[u8], before: &[u8], out: &mut [u8]) -> Verdict {
     verdict::then(kept, same(&tag, &tag_before), TAG, 1)
 }
 
-pub fn case() -> Verdict {
+pub fn case(input: &mut impl Read) -> io::Result<Verdict> {
     let text = long_text();
     let before = long_out();
     let mut out = long_out();
-    refused(read_trial(), &text, &before, &mut out)
+    Ok(refused(read_trial(input)?, &text, &before, &mut out))
 }

@@ -2,6 +2,8 @@
 use case_file::tally;
 use case_file::tally::{Tally, say};
 use case_file::verdict::Verdict;
+use std::io;
+use std::io::Write;
 
 pub const MESSAGE: u32 = 1;
 
@@ -30,39 +32,43 @@ pub fn known(kind: u32) -> bool {
     MESSAGE <= kind && kind <= OTHER_LENGTHS
 }
 
-fn say_kind(kind: u32) {
+fn say_kind(to: &mut impl Write, kind: u32) -> io::Result<()> {
     match kind {
-        MESSAGE => say(b"messages sealed, opened, and opened damaged"),
-        WHOLE_REFUSED => say(b"whole calls refused"),
-        SEALING => say(b"sealings in slices"),
-        OPENING => say(b"openings in slices"),
-        WRONG_TAG => say(b"openings in slices, with a wrong tag"),
-        BEGINNING_REFUSED => say(b"beginnings refused"),
-        STANDING => say(b"forged records that can stand"),
-        NOT_STANDING => say(b"forged records that cannot stand"),
-        ENDED => say(b"forged records that have ended"),
-        OTHER_LENGTHS => say(b"forged records with other lengths lent"),
-        _ => say(b"slices"),
+        MESSAGE => say(to, b"messages sealed, opened, and opened damaged"),
+        WHOLE_REFUSED => say(to, b"whole calls refused"),
+        SEALING => say(to, b"sealings in slices"),
+        OPENING => say(to, b"openings in slices"),
+        WRONG_TAG => say(to, b"openings in slices, with a wrong tag"),
+        BEGINNING_REFUSED => say(to, b"beginnings refused"),
+        STANDING => say(to, b"forged records that can stand"),
+        NOT_STANDING => say(to, b"forged records that cannot stand"),
+        ENDED => say(to, b"forged records that have ended"),
+        OTHER_LENGTHS => say(to, b"forged records with other lengths lent"),
+        _ => say(to, b"slices"),
     }
 }
 
 // One case more. Names it if it differs and is among the first that do.
-pub fn counted(before: Tally, kind: u32, v: Verdict, slices: u32) -> Tally {
+pub fn counted(
+    to: &mut impl Write,
+    before: Tally,
+    kind: u32,
+    v: Verdict,
+    slices: u32,
+) -> io::Result<Tally> {
     let t = tally::counted(tally::more(before, SLICES, slices), kind, v);
     if tally::is_named(t, v) {
-        tally::say_case(t);
-        say_kind(kind);
-        tally::say_difference(v);
+        tally::say_case(to, t)?;
+        say_kind(to, kind)?;
+        tally::say_difference(to, v)?;
     }
-    t
+    Ok(t)
 }
 
-pub fn say_all(t: Tally) {
-    let mut kind = MESSAGE;
-    while kind <= SLICES {
-        say_kind(kind);
-        tally::say_count(t, kind);
-        kind += 1;
+pub fn say_all(to: &mut impl Write, t: Tally) -> io::Result<()> {
+    for kind in MESSAGE..SLICES + 1 {
+        say_kind(to, kind)?;
+        tally::say_count(to, t, kind)?;
     }
-    tally::say_differences(t);
+    tally::say_differences(to, t)
 }

@@ -2,27 +2,29 @@
 use case_file::filling::checksum;
 use case_file::reading;
 use case_file::strings::{first, last_eight, same};
+use std::io;
+use std::io::Read;
 
-fn eight_bytes() -> [u8; 8] {
+fn eight_bytes(input: &mut impl Read) -> io::Result<[u8; 8]> {
     let mut s = [0u8; 8];
-    reading::string(&mut s);
-    s
+    reading::string(input, &mut s)?;
+    Ok(s)
 }
 
-pub fn as_shown(out: &[u8]) -> bool {
+pub fn as_shown(input: &mut impl Read, out: &[u8]) -> io::Result<bool> {
     if out.len() <= 256 {
         let mut shown = [0u8; 256];
-        reading::string_at(&mut shown, 0, out.len());
-        return same(out, first(&shown, out.len() as u32));
+        reading::string_at(input, &mut shown, 0, out.len())?;
+        return Ok(same(out, first(&shown, out.len() as u32)));
     }
-    let start = eight_bytes();
-    let end = eight_bytes();
-    let sum = reading::eight();
+    let start = eight_bytes(input)?;
+    let end = eight_bytes(input)?;
+    let sum = reading::eight(input)?;
     if !same(first(out, 8), &start) {
-        return false;
+        return Ok(false);
     }
     if !same(last_eight(out), &end) {
-        return false;
+        return Ok(false);
     }
-    checksum(out) == sum
+    Ok(checksum(out) == sum)
 }

@@ -14,10 +14,12 @@ ghost use Rattle.std.specs.Prelude.{◌≤◌};
 
 use lines::Heading;
 use reading::Case;
+use std::io;
+use std::io::{Read, Write};
 use trials::{Given, Trial};
 
 // How many cases were read, of how many each job was right, and how many cases differ somewhere or cannot be read.
-#[derive(Drop)]
+#[derive(Clone, Copy)]
 struct Tally {
     read: u32,
     sealings: u32,
@@ -31,7 +33,7 @@ struct Tally {
 }
 
 // Whether a job was right by a whole call, and in slices.
-#[derive(Drop)]
+#[derive(Clone, Copy)]
 struct Both {
     whole: bool,
     sliced: bool,
@@ -39,56 +41,53 @@ struct Both {
 
 fn more(n: u32, right: bool) -> u32 {
     if right {
-        return std::num::wrapping_add_u32(n, 1);
+        return n.wrapping_add(1);
     }
     n
 }
 
 fn same_tag(a: [u8; 16], b: [u8; 16]) -> bool {
-    check::same(&a, &b)
+    a == b
 }
 
 fn same_out(a: [u8; 32], b: [u8; 32]) -> bool {
-    check::same(&a, &b)
+    a == b
 }
 
 // Whether a job gave what it must, run the way named.
-fn right(t: Trial, given: Given, job: &[u8], way: &[u8]) -> bool {
-    let tag = given.tag;
-    let tag_wanted = t.tag;
-    let out = given.out;
-    let out_wanted = t.out;
-    let number = saying::part(t.count, job, way, b"the number", given.number == t.number);
-    let rounds = saying::part(
-        t.count,
-        job,
-        way,
-        b"the sum of rounds",
-        given.rounds == t.rounds,
-    );
-    let steady = saying::part(t.count, job, way, b"what a slice says", given.steady);
-    let tags = saying::part(t.count, job, way, b"the tag", same_tag(tag, tag_wanted));
-    let outs = saying::part(t.count, job, way, b"the output", same_out(out, out_wanted));
-    number && rounds && steady && tags && outs
+fn right(to: &mut impl Write, t: Trial, given: Given, job: &[u8], way: &[u8]) -> io::Result<bool> {
+    let n = t.count;
+    let number = given.number == t.number;
+    let number = saying::part(to, n, job, way, b"the number", number)?;
+    let rounds = given.rounds == t.rounds;
+    let rounds = saying::part(to, n, job, way, b"the sum of rounds", rounds)?;
+    let steady = saying::part(to, n, job, way, b"what a slice says", given.steady)?;
+    let tags = saying::part(to, n, job, way, b"the tag", same_tag(given.tag, t.tag))?;
+    let outs = saying::part(to, n, job, way, b"the output", same_out(given.out, t.out))?;
+    Ok(number && rounds && steady && tags && outs)
 }
 
-fn both_ways(t: Trial, job: &[u8]) -> Both
+fn both_ways(to: &mut impl Write, t: Trial, job: &[u8]) -> io::Result<Both>
     requires { (t.assoc_len ≤ 32) × (t.text_len ≤ 32) }
 {
-    Both {
-        whole: right(t, whole::given(t), job, b""),
-        sliced: right(t, slices::given(t), job, b" in slices"),
-    }
+    Ok(Both {
+        whole: right(to, t, whole::given(t), job, b"")?,
+        sliced: right(to, t, slices::given(t), job, b" in slices")?,
+    })
 }
 
-fn try_case(instance: u32, c: Case, n: Tally) -> Tally
+fn try_case(to: &mut impl Write, instance: u32, c: Case, n: Tally) -> io::Result<Tally>
     requires { (c.assoc_len ≤ 32) × (c.text_len ≤ 32) }
 {
-    let s = both_ways(trials::sealing(instance, c), b"sealing");
-    let o = both_ways(trials::opening(instance, c), b"opening");
-    let r = both_ways(trials::refusal(instance, c), b"opening with a wrong tag");
+    let s = both_ways(to, trials::sealing(instance, c), b"sealing")?;
+    let o = both_ways(to, trials::opening(instance, c), b"opening")?;
+    let r = both_ways(
+        to,
+        trials::refusal(instance, c),
+        b"opening with a wrong tag",
+    )?;
     let all = s.whole && s.sliced && o.whole && o.sliced && r.whole && r.sliced;
-    Tally {
+    Ok(Tally {
         read: more(n.read, true),
         sealings: more(n.sealings, s.whole),
         openings: more(n.openings, o.whole),
@@ -98,7 +97,7 @@ fn try_case(instance: u32, c: Case, n: Tally) -> Tally
         sliced_refusals: more(n.sliced_refusals, r.sliced),
         differ: more(n.differ, !all),
         going: true,
-    }
+    })
 }
 
 // Reading ends where a line is not as it should be.
@@ -115,34 +114,46 @@ fn ended(n: Tally) -> Tally {
     t
 }
 
-fn read_and_try(instance: u32, count: u32, n: Tally) -> Tally {
-    let c = reading::read_case(count);
+fn read_and_try(
+    input: &mut impl Read,
+    to: &mut impl Write,
+    instance: u32,
+    count: u32,
+    n: Tally,
+) -> io::Result<Tally> {
+    let c = reading::read_case(input, to, count)?;
     if !c.whole {
-        return cut(n);
+        return Ok(cut(n));
     }
     if 32 < c.assoc_len {
-        return cut(n);
+        return Ok(cut(n));
     }
     if 32 < c.text_len {
-        return cut(n);
+        return Ok(cut(n));
     }
-    try_case(instance, c, n)
+    try_case(to, instance, c, n)
 }
 
 // The case with that count, if there is one.
-fn turn(instance: u32, count: u32, n: Tally) -> Tally {
-    match lines::read_heading(count) {
-        Heading::End => ended(n),
-        Heading::Right => read_and_try(instance, count, n),
+fn turn(
+    input: &mut impl Read,
+    to: &mut impl Write,
+    instance: u32,
+    count: u32,
+    n: Tally,
+) -> io::Result<Tally> {
+    match lines::read_heading(input, count)? {
+        Heading::End => Ok(ended(n)),
+        Heading::Right => read_and_try(input, to, instance, count, n),
         Heading::Wrong => {
-            saying::line(count, b"Count", false);
-            cut(n)
+            saying::line(to, count, b"Count", false)?;
+            Ok(cut(n))
         }
     }
 }
 
 // A proved loop has to end, and nothing says that an input does: it counts up to a number that no file reaches.
-fn try_all(instance: u32) -> Tally {
+fn try_all(input: &mut impl Read, to: &mut impl Write, instance: u32) -> io::Result<Tally> {
     let mut n = Tally {
         read: 0,
         sealings: 0,
@@ -154,24 +165,25 @@ fn try_all(instance: u32) -> Tally {
         differ: 0,
         going: true,
     };
-    let mut count: u32 = 0;
-    while count < 1000000 && n.going {
-        count += 1;
-        n = turn(instance, count, n);
+    for count in 1..1000001 {
+        n = turn(input, to, instance, count, n)?;
+        if !n.going {
+            break;
+        }
     }
-    n
+    Ok(n)
 }
 
-// The cases of an instance, from standard input.
-pub fn run(instance: u32) {
-    let n = try_all(instance);
-    saying::number(b"instance", instance);
-    saying::number(b"cases read", n.read);
-    saying::number(b"sealings right", n.sealings);
-    saying::number(b"openings right", n.openings);
-    saying::number(b"wrong tags refused", n.refusals);
-    saying::number(b"sealings in slices right", n.sliced_sealings);
-    saying::number(b"openings in slices right", n.sliced_openings);
-    saying::number(b"wrong tags in slices refused", n.sliced_refusals);
-    saying::number(b"cases that differ or cannot be read", n.differ);
+// The cases of an instance, from the input.
+pub fn run(input: &mut impl Read, to: &mut impl Write, instance: u32) -> io::Result<()> {
+    let n = try_all(input, to, instance)?;
+    saying::number(to, b"instance", instance)?;
+    saying::number(to, b"cases read", n.read)?;
+    saying::number(to, b"sealings right", n.sealings)?;
+    saying::number(to, b"openings right", n.openings)?;
+    saying::number(to, b"wrong tags refused", n.refusals)?;
+    saying::number(to, b"sealings in slices right", n.sliced_sealings)?;
+    saying::number(to, b"openings in slices right", n.sliced_openings)?;
+    saying::number(to, b"wrong tags in slices refused", n.sliced_refusals)?;
+    saying::number(to, b"cases that differ or cannot be read", n.differ)
 }

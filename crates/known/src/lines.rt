@@ -1,10 +1,12 @@
 // Lines of a file of known answers: a name and a value each, in the text format of NIST's lightweight cryptography call.
-ghost use Rattle.std.specs.Prelude.{◌≤◌, length};
-ghost use Rattle.io.specs.Counts.{IsPrefixLen};
+ghost use Rattle.std.specs.Prelude.{◌≤◌, IfOk, length};
+ghost use Rattle.console.specs.Counts.{IsPrefixLen};
 
-use libc::STDIN_FILENO;
+use console::read_full;
+use std::io;
+use std::io::Read;
 
-#[derive(Drop)]
+#[derive(Clone, Copy)]
 pub enum Heading {
     End,
     Right,
@@ -12,48 +14,38 @@ pub enum Heading {
 }
 
 // Where the value of a line stands, if the line has the name asked for and an end.
-#[derive(Drop)]
+#[derive(Clone, Copy)]
 struct Value {
     good: bool,
     from: usize,
     end: usize,
 }
 
-#[derive(Drop)]
-struct Byte {
-    there: bool,
-    byte: u8,
-}
-
 // A length that no string has.
 const MALFORMED: u32 = 1000;
 
-fn next_byte() -> Byte {
+fn next_byte(input: &mut impl Read) -> io::Result<Option<u8>> {
     let mut one = [0u8; 1];
-    let got = io::read_full(STDIN_FILENO, &mut one);
-    Byte {
-        there: got == 1,
-        byte: one[0],
-    }
+    let got = read_full(input, &mut one)?;
+    Ok(if got == 1 { Some(one[0]) } else { None })
 }
 
 // Reads a line with its end, as far as there is room. At the end of the input there is nothing to read.
-fn read_line(line: &mut [u8]) -> usize
-    ensures { IsPrefixLen result line.new }
+fn read_line(input: &mut impl Read, line: &mut [u8]) -> io::Result<usize>
+    ensures { IfOk result (λ n. IsPrefixLen n line.new) }
 {
     let mut n = 0;
     while n < line.len() {
-        let next = next_byte();
-        if !next.there {
-            return n;
-        }
-        line[n] = next.byte;
+        let Some(byte) = next_byte(input)? else {
+            break;
+        };
+        line[n] = byte;
         n += 1;
-        if next.byte == b'\n' {
-            return n;
+        if byte == b'\n' {
+            break;
         }
     }
-    n
+    Ok(n)
 }
 
 fn value_of(line: &[u8], name: &[u8]) -> Value
@@ -68,7 +60,7 @@ fn value_of(line: &[u8], name: &[u8]) -> Value
         };
     }
     let end = line.len() - 1;
-    let good = check::same(&line[0..from], name) && line[end] == b'\n';
+    let good = &line[0..from] == name && line[end] == b'\n';
     Value { good, from, end }
 }
 
@@ -92,15 +84,13 @@ fn unhex(hex: &[u8], out: &mut [u8]) -> bool {
     if out.len() < n {
         return false;
     }
-    let mut i = 0;
-    while i < n {
+    for i in 0..n {
         let high = digit(hex[2 * i]);
         let low = digit(hex[2 * i + 1]);
         if 15 < high || 15 < low {
             return false;
         }
         out[i] = (high << 4) | low;
-        i += 1;
     }
     true
 }
@@ -128,36 +118,35 @@ fn decode(line: &[u8], name: &[u8], out: &mut [u8]) -> u32 {
 }
 
 // Reads the line of that name: its value's length in bytes.
-pub fn read_hex(name: &[u8], out: &mut [u8]) -> u32 {
+pub fn read_hex(input: &mut impl Read, name: &[u8], out: &mut [u8]) -> io::Result<u32> {
     let mut line = [0u8; 128];
-    let n = read_line(&mut line);
-    decode(&line[..n], name, out)
+    let n = read_line(input, &mut line)?;
+    Ok(decode(&line[..n], name, out))
 }
 
 fn is_count(line: &[u8], count: u32) -> bool {
     let value = value_of(line, b"Count = ");
     let from = value.from;
     let end = value.end;
-    let mut digits = [0u8; 20];
-    let n = io::decimal(count as u64, &mut digits);
-    value.good && check::same(&line[from..end], &digits[..n])
+    let mut digits = itoa::Buffer::new();
+    value.good && &line[from..end] == digits.format(count).as_bytes()
 }
 
 // The line that opens a case; it must have the count that comes next.
-pub fn read_heading(count: u32) -> Heading {
+pub fn read_heading(input: &mut impl Read, count: u32) -> io::Result<Heading> {
     let mut line = [0u8; 128];
-    let n = read_line(&mut line);
+    let n = read_line(input, &mut line)?;
     if n == 0 {
-        return Heading::End;
+        return Ok(Heading::End);
     }
     if is_count(&line[..n], count) {
-        return Heading::Right;
+        return Ok(Heading::Right);
     }
-    Heading::Wrong
+    Ok(Heading::Wrong)
 }
 
-pub fn read_empty_line() -> bool {
+pub fn read_empty_line(input: &mut impl Read) -> io::Result<bool> {
     let mut line = [0u8; 2];
-    let n = read_line(&mut line);
-    n == 1 && line[0] == b'\n'
+    let n = read_line(input, &mut line)?;
+    Ok(n == 1 && line[0] == b'\n')
 }

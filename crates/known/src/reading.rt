@@ -2,8 +2,10 @@
 ghost use Rattle.std.specs.Prelude.{◌≡◌, length};
 
 use crate::{lines, saying};
+use std::io;
+use std::io::{Read, Write};
 
-#[derive(Drop)]
+#[derive(Clone, Copy)]
 pub struct Case {
     pub count: u32,
     pub key: [u8; 16],
@@ -20,7 +22,7 @@ pub struct Case {
 }
 
 // What a CT line holds: the ciphertext and the tag.
-#[derive(Drop)]
+#[derive(Clone, Copy)]
 struct Sealed {
     out: [u8; 32],
     tag: [u8; 16],
@@ -39,39 +41,34 @@ fn parted(both: [u8; 48], text_len: u32) -> Sealed {
     let m = text_len as usize;
     if m <= 32 {
         let end = m + 16;
-        bytes::copy(&both[0..m], &mut out);
-        bytes::copy(&both[m..end], &mut tag);
+        out[0..m].copy_from_slice(&both[0..m]);
+        tag.copy_from_slice(&both[m..end]);
     }
     Sealed { out, tag }
 }
 
 // Reads the lines that follow a case's heading, and names those that are not as they should be.
-pub fn read_case(count: u32) -> Case {
+pub fn read_case(input: &mut impl Read, to: &mut impl Write, count: u32) -> io::Result<Case> {
     let mut key = [0u8; 16];
     let mut nonce = [0u8; 16];
     let mut text = blank();
     let mut assoc = blank();
     let mut both = [0u8; 48];
-    let key_right = saying::line(count, b"Key", lines::read_hex(b"Key = ", &mut key) == 16);
-    let nonce_right = saying::line(
-        count,
-        b"Nonce",
-        lines::read_hex(b"Nonce = ", &mut nonce) == 16,
-    );
-    let m = lines::read_hex(b"PT = ", &mut text);
-    let a = lines::read_hex(b"AD = ", &mut assoc);
-    let text_right = saying::line(count, b"PT", m <= 32);
-    let assoc_right = saying::line(count, b"AD", a <= 32);
-    let both_right = saying::line(
-        count,
-        b"CT",
-        lines::read_hex(b"CT = ", &mut both) == std::num::wrapping_add_u32(m, 16),
-    );
-    let end_right = saying::line(count, b"behind CT", lines::read_empty_line());
+    let k = lines::read_hex(input, b"Key = ", &mut key)?;
+    let key_right = saying::line(to, count, b"Key", k == 16)?;
+    let n = lines::read_hex(input, b"Nonce = ", &mut nonce)?;
+    let nonce_right = saying::line(to, count, b"Nonce", n == 16)?;
+    let m = lines::read_hex(input, b"PT = ", &mut text)?;
+    let a = lines::read_hex(input, b"AD = ", &mut assoc)?;
+    let text_right = saying::line(to, count, b"PT", m <= 32)?;
+    let assoc_right = saying::line(to, count, b"AD", a <= 32)?;
+    let c = lines::read_hex(input, b"CT = ", &mut both)?;
+    let both_right = saying::line(to, count, b"CT", c == m.wrapping_add(16))?;
+    let end_right = saying::line(to, count, b"behind CT", lines::read_empty_line(input)?)?;
     let s = parted(both, m);
     let sealed = s.out;
     let tag = s.tag;
-    Case {
+    Ok(Case {
         count,
         key,
         nonce,
@@ -82,5 +79,5 @@ pub fn read_case(count: u32) -> Case {
         sealed,
         tag,
         whole: key_right && nonce_right && text_right && assoc_right && both_right && end_right,
-    }
+    })
 }

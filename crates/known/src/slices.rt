@@ -6,7 +6,7 @@ use crate::trials::{Given, Trial};
 use isap::Job;
 
 // A job on its way through slices.
-#[derive(Drop)]
+#[derive(Clone, Copy)]
 struct Course {
     number: u32,
     rounds: u32,
@@ -17,7 +17,7 @@ struct Course {
 }
 
 // What a slice gives, and the output.
-#[derive(Drop)]
+#[derive(Clone, Copy)]
 struct Stretch {
     number: u32,
     rounds: u32,
@@ -97,8 +97,8 @@ fn step(t: Trial, c: Course) -> Course
     );
     let next = done.job;
     let out = done.out;
-    let wanted = least(c.budget, std::num::wrapping_sub_u32(t.rounds, c.rounds));
-    let rounds = std::num::wrapping_add_u32(c.rounds, done.rounds);
+    let wanted = least(c.budget, t.rounds.wrapping_sub(c.rounds));
+    let rounds = c.rounds.wrapping_add(done.rounds);
     let steady = done.rounds == wanted && done.number == number_after(t, rounds);
     Course {
         number: done.number,
@@ -123,10 +123,11 @@ fn run(t: Trial) -> Course
         out,
         job: begun(t),
     };
-    let mut slices: u32 = 0;
-    while slices < 1160 && c.number == 100 {
+    for _ in 0..1160 {
+        if c.number != 100 {
+            break;
+        }
         c = step(t, c);
-        slices += 1;
     }
     c
 }

@@ -4,7 +4,7 @@ ghost use Rattle.std.specs.Prelude.{◌≡◌};
 use crate::reading::{Case, blank};
 
 // A job and what it must give: number, rounds, output, and of a sealing the tag.
-#[derive(Drop)]
+#[derive(Clone, Copy)]
 pub struct Trial {
     pub count: u32,
     pub instance: u32,
@@ -22,7 +22,7 @@ pub struct Trial {
 }
 
 // What a job gave.
-#[derive(Drop)]
+#[derive(Clone, Copy)]
 pub struct Given {
     pub number: u32,
     pub rounds: u32,

@@ -1,6 +1,8 @@
 // The known answers of instance 1, ISAP-A-128a.
 #![tactic(auto)]
 
-fn main() {
-    known::run(1);
+use std::io;
+
+fn main(rt: HostRuntime) -> io::Result<()> {
+    known::run(&mut rt.stdin(), &mut rt.stdout(), 1)
 }

@@ -1,6 +1,8 @@
 // The known answers of instance 3, ISAP-K-128a.
 #![tactic(auto)]
 
-fn main() {
-    known::run(3);
+use std::io;
+
+fn main(rt: HostRuntime) -> io::Result<()> {
+    known::run(&mut rt.stdin(), &mut rt.stdout(), 3)
 }

@@ -19,10 +19,8 @@ fn low(n: usize) -> u8 {
 // 0, 1, 2 and so on, after 255 with 0 again: what associated data and text begin with.
 fn counting() -> [u8; 4096] {
     let mut s = [0u8; 4096];
-    let mut i = 0;
-    while i < 4096 {
+    for i in 0..4096 {
         s[i] = low(i);
-        i += 1;
     }
     s
 }
@@ -34,10 +32,8 @@ fn wide(b: u8) -> u64 {
 // A checksum that goes on over more bytes.
 fn summed(sum: u64, bytes: &[u8]) -> u64 {
     let mut s = sum;
-    let mut i = 0;
-    while i < bytes.len() {
-        s = std::num::wrapping_add_u64((s << 9) | (s >> 55), wide(bytes[i]));
-        i += 1;
+    for b in bytes {
+        s = ((s << 9) | (s >> 55)).wrapping_add(wide(*b));
     }
     s
 }
@@ -69,12 +65,13 @@ fn seal_in_slices(
     let begun = isap::begin_seal(r.instance, &k, &nonce, r.assoc, r.text);
     let mut number = begun.number;
     let mut job = begun.job;
-    let mut slices: u32 = 0;
-    while slices < MOST_SLICES && number == 100 {
+    for _ in 0..MOST_SLICES {
+        if number != 100 {
+            break;
+        }
         let sliced = isap::slice(job, assoc, text, out, r.budget);
         number = sliced.number;
         job = sliced.job;
-        slices += 1;
     }
     job.tag
 }
@@ -101,12 +98,10 @@ fn seal_once(r: Request, nonce: [u8; 16], assoc: &[u8], text: &[u8], out: &mut [
 // Hands back the last tag.
 fn seal_all(r: Request, assoc: &[u8], text: &[u8], out: &mut [u8]) -> [u8; 16] {
     let mut tag = first_nonce();
-    let mut left = r.repetitions;
-    while 0 < left {
+    for _ in 0..r.repetitions {
         // two steps: `tag = seal_once(..)` is not covered for an array
         let next = seal_once(r, tag, assoc, text, out);
         tag = next;
-        left -= 1;
     }
     tag
 }
@@ -121,10 +116,8 @@ fn open_once(r: Request, assoc: &[u8], cipher: &[u8], tag: [u8; 16], out: &mut [
 // Hands back the sum of the numbers returned: 0, where every tag was right.
 fn open_all(r: Request, assoc: &[u8], cipher: &[u8], tag: [u8; 16], out: &mut [u8]) -> u64 {
     let mut numbers: u64 = 0;
-    let mut left = r.repetitions;
-    while 0 < left {
-        numbers = std::num::wrapping_add_u64(numbers, open_once(r, assoc, cipher, tag, out));
-        left -= 1;
+    for _ in 0..r.repetitions {
+        numbers = numbers.wrapping_add(open_once(r, assoc, cipher, tag, out));
     }
     numbers
 }

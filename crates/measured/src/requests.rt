@@ -1,6 +1,6 @@
 // A request's 14 bytes: operation, instance, the two lengths in two bytes each, budget and repetitions in four, the first most significant.
 
-#[derive(Drop)]
+#[derive(Clone, Copy)]
 pub struct Request {
     // 1 whole sealings, 2 whole openings, 3 sealings in slices, 4 the same by a host task that keeps the record
     pub operation: u32,

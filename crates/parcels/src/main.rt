@@ -11,30 +11,32 @@ mod room;
 use case_file::tally::Tally;
 use case_file::verdict::Verdict;
 use case_file::{reading, tally};
+use std::io;
+use std::io::{Read, Write};
 
-fn case_of(kind: u32) -> Verdict {
+fn case_of(input: &mut impl Read, kind: u32) -> io::Result<Verdict> {
     if kind <= reports::NOT_BUILT {
-        return building::case();
+        return building::case(input);
     }
-    received::case()
+    received::case(input)
 }
 
-// A proved loop has to end: it counts down from a number that no file uses up.
-fn run() -> Tally {
+// A proved loop has to end: it has more turns than any file uses up.
+fn run(input: &mut impl Read, to: &mut impl Write) -> io::Result<Tally> {
     let mut tally = tally::nothing_yet();
-    let mut turns = u32::MAX;
-    while 0 < turns {
-        let kind = reading::byte();
+    for _ in 0..u32::MAX {
+        let kind = reading::byte(input)?;
         if !reports::known(kind) {
-            return tally;
+            break;
         }
-        tally = reports::counted(tally, kind, case_of(kind));
-        turns -= 1;
+        tally = reports::counted(to, tally, kind, case_of(input, kind)?)?;
     }
-    tally
+    Ok(tally)
 }
 
-fn main() {
-    let tally = run();
-    reports::say_all(tally);
+fn main(rt: HostRuntime) -> io::Result<()> {
+    let mut input = rt.stdin();
+    let mut to = rt.stdout();
+    let tally = run(&mut input, &mut to)?;
+    reports::say_all(&mut to, tally)
 }

@@ -4,18 +4,20 @@ use case_file::strings::{first, same, within};
 use case_file::verdict::{CIPHERTEXT, FIELDS, NUMBER, OUTPUT, READING, Said, TAG, Verdict};
 use case_file::{reading, verdict};
 use parcel::{Fields, Reading};
+use std::io;
+use std::io::Read;
 
-fn read_fields() -> Fields {
-    let instance = reading::byte();
-    let station = reading::pair() as u16;
-    let counter = reading::eight();
-    let text = reading::pair();
-    Fields {
+fn read_fields(input: &mut impl Read) -> io::Result<Fields> {
+    let instance = reading::byte(input)?;
+    let station = reading::pair(input)? as u16;
+    let counter = reading::eight(input)?;
+    let text = reading::pair(input)?;
+    Ok(Fields {
         instance,
         station,
         counter,
         text,
-    }
+    })
 }
 
 fn same_fields(a: Fields, b: Fields) -> bool {
@@ -37,40 +39,40 @@ fn is_reading(reading: Reading, number: u32, expected: Fields) -> bool {
     number == 0 && same_fields(fields, expected)
 }
 
-fn read(buffer: &[u8]) -> Verdict {
-    let number = reading::byte();
-    let expected = read_fields();
+fn read(input: &mut impl Read, buffer: &[u8]) -> io::Result<Verdict> {
+    let number = reading::byte(input)?;
+    let expected = read_fields(input)?;
     let reading = parcel::read(buffer);
     let fields = parcel::fields_of(reading);
     let nothing = verdict::no_difference();
     let whole = verdict::then(nothing, is_reading(reading, number, expected), READING, 1);
     let numbered = verdict::then(whole, parcel::number_of(reading) == number, NUMBER, 1);
-    verdict::then(numbered, same_fields(fields, expected), FIELDS, 1)
+    Ok(verdict::then(numbered, same_fields(fields, expected), FIELDS, 1))
 }
 
-fn parted(before: Verdict, buffer: &[u8]) -> Verdict {
+fn parted(input: &mut impl Read, before: Verdict, buffer: &[u8]) -> io::Result<Verdict> {
     let mut expected = [0u8; 4200];
-    let m = reading::counted_string(&mut expected);
+    let m = reading::counted_string(input, &mut expected)?;
     let cipher = same(parcel::cipher(buffer), first(&expected, m));
     let ciphered = verdict::then(before, cipher, CIPHERTEXT, 2);
-    let t = reading::counted_string(&mut expected);
+    let t = reading::counted_string(input, &mut expected)?;
     let tag = same(parcel::tag(buffer), first(&expected, t));
-    verdict::then(ciphered, tag, TAG, 3)
+    Ok(verdict::then(ciphered, tag, TAG, 3))
 }
 
 // What an opening is lent besides the buffer, and must answer.
-#[derive(Drop)]
+#[derive(Clone, Copy)]
 struct Opening {
     key: u32,
     out: u32,
     answer: Said,
 }
 
-fn read_opening() -> Opening {
-    let key = reading::byte();
-    let out = reading::pair();
-    let answer = verdict::read_said();
-    Opening { key, out, answer }
+fn read_opening(input: &mut impl Read) -> io::Result<Opening> {
+    let key = reading::byte(input)?;
+    let out = reading::pair(input)?;
+    let answer = verdict::read_said(input)?;
+    Ok(Opening { key, out, answer })
 }
 
 fn open(opening: Opening, key: [u8; 32], buffer: &[u8], out: &mut [u8]) -> Said {
@@ -83,22 +85,29 @@ fn open(opening: Opening, key: [u8; 32], buffer: &[u8], out: &mut [u8]) -> Said 
     }
 }
 
-fn opened(before: Verdict, room: Room, buffer: &[u8]) -> Verdict {
-    let opening = read_opening();
+fn opened(
+    input: &mut impl Read,
+    before: Verdict,
+    room: Room,
+    buffer: &[u8],
+) -> io::Result<Verdict> {
+    let opening = read_opening(input)?;
     let mut written = room.out;
-    reading::counted_string(&mut written);
+    reading::counted_string(input, &mut written)?;
     let key = room.key;
     let mut out = room.out;
     let said = open(opening, key, buffer, &mut out);
     let expected = opening.answer;
     let answered = verdict::then_said(before, said, expected, 4);
-    verdict::then(answered, same(&out, &written), OUTPUT, 4)
+    Ok(verdict::then(answered, same(&out, &written), OUTPUT, 4))
 }
 
-pub fn case() -> Verdict {
-    let room = filled(reading::eight());
+pub fn case(input: &mut impl Read) -> io::Result<Verdict> {
+    let room = filled(reading::eight(input)?);
     let mut all = [0u8; 4200];
-    let length = reading::counted_string(&mut all);
+    let length = reading::counted_string(input, &mut all)?;
     let buffer = first(&all, length);
-    opened(parted(read(buffer), buffer), room, buffer)
+    let read = read(input, buffer)?;
+    let parted = parted(input, read, buffer)?;
+    opened(input, parted, room, buffer)
 }

@@ -2,6 +2,8 @@
 use case_file::tally;
 use case_file::tally::{Tally, say};
 use case_file::verdict::Verdict;
+use std::io;
+use std::io::Write;
 
 const BUILT: u32 = 1;
 
@@ -23,36 +25,34 @@ pub fn known(kind: u32) -> bool {
     BUILT <= kind && kind <= WRONG_HEADER
 }
 
-fn say_kind(kind: u32) {
+fn say_kind(to: &mut impl Write, kind: u32) -> io::Result<()> {
     match kind {
-        BUILT => say(b"parcels built"),
-        NOT_BUILT => say(b"parcels not built"),
-        OPENED => say(b"parcels read and opened"),
-        WRONG_TAG => say(b"parcels read and not opened, for the tag"),
-        LENGTH_LENT => say(b"parcels read and not opened, for a length lent"),
-        CUT_SHORT => say(b"buffers cut short"),
-        WRONG_MARK => say(b"buffers without the mark"),
-        _ => say(b"buffers whose instance or text length no parcel has"),
+        BUILT => say(to, b"parcels built"),
+        NOT_BUILT => say(to, b"parcels not built"),
+        OPENED => say(to, b"parcels read and opened"),
+        WRONG_TAG => say(to, b"parcels read and not opened, for the tag"),
+        LENGTH_LENT => say(to, b"parcels read and not opened, for a length lent"),
+        CUT_SHORT => say(to, b"buffers cut short"),
+        WRONG_MARK => say(to, b"buffers without the mark"),
+        _ => say(to, b"buffers whose instance or text length no parcel has"),
     }
 }
 
 // One case more. Names it if it differs and is among the first that do.
-pub fn counted(before: Tally, kind: u32, v: Verdict) -> Tally {
+pub fn counted(to: &mut impl Write, before: Tally, kind: u32, v: Verdict) -> io::Result<Tally> {
     let t = tally::counted(before, kind, v);
     if tally::is_named(t, v) {
-        tally::say_case(t);
-        say_kind(kind);
-        tally::say_difference(v);
+        tally::say_case(to, t)?;
+        say_kind(to, kind)?;
+        tally::say_difference(to, v)?;
     }
-    t
+    Ok(t)
 }
 
-pub fn say_all(t: Tally) {
-    let mut kind = BUILT;
-    while kind <= WRONG_HEADER {
-        say_kind(kind);
-        tally::say_count(t, kind);
-        kind += 1;
+pub fn say_all(to: &mut impl Write, t: Tally) -> io::Result<()> {
+    for kind in BUILT..WRONG_HEADER + 1 {
+        say_kind(to, kind)?;
+        tally::say_count(to, t, kind)?;
     }
-    tally::say_differences(t);
+    tally::say_differences(to, t)
 }

@@ -1,7 +1,7 @@
 // The buffers from which the lent parts are taken, each from its start. The second program has the same (`ROOM`).
 use case_file::filling::fill;
 
-#[derive(Drop)]
+#[derive(Clone, Copy)]
 pub struct Room {
     pub key: [u8; 32],
     pub text: [u8; 4200],

@@ -6,121 +6,136 @@
 
 ghost use Rattle.std.specs.Prelude.{◌+◌, ◌≤◌};
 
-use libc::{STDIN_FILENO, STDOUT_FILENO};
+use console::read_full;
+use std::io;
+use std::io::{Read, Write};
 
 fn wide(b: u8) -> u64 {
     b as u64
 }
 
-fn hex(s: [u8; 66]) {
-    let mut i: usize = 0;
-    while i < 66 {
-        io::print_hex(STDOUT_FILENO, wide(s[i]), 2);
-        i += 1;
+fn hex(to: &mut impl Write, s: [u8; 66]) -> io::Result<()> {
+    for b in s {
+        let n = wide(b);
+        write!(to, "{n:02x}")?;
     }
+    Ok(())
 }
 
 // The rounds, the state in hex, and the line's end.
-fn show(count: u32, s: [u8; 66]) {
-    io::print_decimal(STDOUT_FILENO, count as u64);
-    io::write_all(STDOUT_FILENO, b" ");
-    hex(s);
-    io::write_all(STDOUT_FILENO, b"\n");
+fn show(to: &mut impl Write, count: u32, s: [u8; 66]) -> io::Result<()> {
+    write!(to, "{count} ")?;
+    hex(to, s)?;
+    to.write_all(b"\n")
 }
 
 // The same with the first round before their number.
-fn show_run(from: u32, count: u32, s: [u8; 66]) {
-    io::print_decimal(STDOUT_FILENO, from as u64);
-    io::write_all(STDOUT_FILENO, b" ");
-    show(count, s);
+fn show_run(to: &mut impl Write, from: u32, count: u32, s: [u8; 66]) -> io::Result<()> {
+    write!(to, "{from} ")?;
+    show(to, count, s)
 }
 
-fn ascon_last(state: [u8; 66], count: u32)
+fn ascon_last(to: &mut impl Write, state: [u8; 66], count: u32) -> io::Result<()>
     requires { count ≤ 12 }
 {
     let mut s = state;
     ascon::rounds(&mut s, 12 - count, count);
-    io::write_all(STDOUT_FILENO, b"ascon-p ");
-    show(count, s);
+    to.write_all(b"ascon-p ")?;
+    show(to, count, s)
 }
 
-fn keccak_last(state: [u8; 66], count: u32)
+fn keccak_last(to: &mut impl Write, state: [u8; 66], count: u32) -> io::Result<()>
     requires { count ≤ 20 }
 {
     let mut s = state;
     keccak::rounds(&mut s, 20 - count, count);
-    io::write_all(STDOUT_FILENO, b"keccak-p ");
-    show(count, s);
+    to.write_all(b"keccak-p ")?;
+    show(to, count, s)
 }
 
-fn shadow_run(state: [u8; 66], from: u32, count: u32)
+fn shadow_run(to: &mut impl Write, state: [u8; 66], from: u32, count: u32) -> io::Result<()>
     requires { from + count ≤ 12 }
 {
     let mut s = state;
     shadow::rounds(&mut s, from, count);
-    io::write_all(STDOUT_FILENO, b"shadow-512 ");
-    show_run(from, count, s);
+    to.write_all(b"shadow-512 ")?;
+    show_run(to, from, count, s)
 }
 
-fn clyde_run(back: bool, state: [u8; 66], key: [u8; 16], tweak: [u8; 16], from: u32, count: u32)
+fn clyde_run(
+    to: &mut impl Write,
+    back: bool,
+    state: [u8; 66],
+    key: [u8; 16],
+    tweak: [u8; 16],
+    from: u32,
+    count: u32,
+) -> io::Result<()>
     requires { from + count ≤ 12 }
 {
     let mut s = state;
     clyde::rounds(&mut s, back, &key, &tweak, from, count);
     if back {
-        io::write_all(STDOUT_FILENO, b"clyde-128-inverse ");
+        to.write_all(b"clyde-128-inverse ")?;
     } else {
-        io::write_all(STDOUT_FILENO, b"clyde-128 ");
+        to.write_all(b"clyde-128 ")?;
     }
-    show_run(from, count, s);
+    show_run(to, from, count, s)
 }
 
-fn of_isap(state: [u8; 66]) {
-    ascon_last(state, 12);
-    ascon_last(state, 8);
-    ascon_last(state, 6);
-    ascon_last(state, 1);
-    keccak_last(state, 20);
-    keccak_last(state, 16);
-    keccak_last(state, 12);
-    keccak_last(state, 8);
-    keccak_last(state, 1);
+fn of_isap(to: &mut impl Write, state: [u8; 66]) -> io::Result<()> {
+    ascon_last(to, state, 12)?;
+    ascon_last(to, state, 8)?;
+    ascon_last(to, state, 6)?;
+    ascon_last(to, state, 1)?;
+    keccak_last(to, state, 20)?;
+    keccak_last(to, state, 16)?;
+    keccak_last(to, state, 12)?;
+    keccak_last(to, state, 8)?;
+    keccak_last(to, state, 1)
 }
 
 // All rounds of a call, the first, the second, some that begin within a step, and up to the last; so for the cipher and its inverse.
-fn of_shadow(state: [u8; 66]) {
-    shadow_run(state, 0, 12);
-    shadow_run(state, 0, 1);
-    shadow_run(state, 1, 1);
-    shadow_run(state, 1, 4);
-    shadow_run(state, 5, 7);
+fn of_shadow(to: &mut impl Write, state: [u8; 66]) -> io::Result<()> {
+    shadow_run(to, state, 0, 12)?;
+    shadow_run(to, state, 0, 1)?;
+    shadow_run(to, state, 1, 1)?;
+    shadow_run(to, state, 1, 4)?;
+    shadow_run(to, state, 5, 7)
 }
 
-fn of_clyde(back: bool, state: [u8; 66], key: [u8; 16], tweak: [u8; 16]) {
-    clyde_run(back, state, key, tweak, 0, 12);
-    clyde_run(back, state, key, tweak, 0, 1);
-    clyde_run(back, state, key, tweak, 1, 1);
-    clyde_run(back, state, key, tweak, 1, 4);
-    clyde_run(back, state, key, tweak, 5, 7);
+fn of_clyde(
+    to: &mut impl Write,
+    back: bool,
+    state: [u8; 66],
+    key: [u8; 16],
+    tweak: [u8; 16],
+) -> io::Result<()> {
+    clyde_run(to, back, state, key, tweak, 0, 12)?;
+    clyde_run(to, back, state, key, tweak, 0, 1)?;
+    clyde_run(to, back, state, key, tweak, 1, 1)?;
+    clyde_run(to, back, state, key, tweak, 1, 4)?;
+    clyde_run(to, back, state, key, tweak, 5, 7)
 }
 
-fn case() {
+fn case(input: &mut impl Read, to: &mut impl Write) -> io::Result<()> {
     let mut state = [0u8; 66];
     let mut key = [0u8; 16];
     let mut tweak = [0u8; 16];
-    io::read_full(STDIN_FILENO, &mut state);
-    io::read_full(STDIN_FILENO, &mut key);
-    io::read_full(STDIN_FILENO, &mut tweak);
-    of_isap(state);
-    of_shadow(state);
-    of_clyde(false, state, key, tweak);
-    of_clyde(true, state, key, tweak);
+    read_full(input, &mut state)?;
+    read_full(input, &mut key)?;
+    read_full(input, &mut tweak)?;
+    of_isap(to, state)?;
+    of_shadow(to, state)?;
+    of_clyde(to, false, state, key, tweak)?;
+    of_clyde(to, true, state, key, tweak)
 }
 
-fn main() {
-    let mut i: u32 = 0;
-    while i < 32 {
-        case();
-        i += 1;
+fn main(rt: HostRuntime) -> io::Result<()> {
+    let mut input = rt.stdin();
+    let mut to = rt.stdout();
+    for _ in 0..32 {
+        case(&mut input, &mut to)?;
     }
+    Ok(())
 }

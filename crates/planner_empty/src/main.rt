@@ -1,6 +1,8 @@
 // The planning program on an empty input.
 #![tactic(auto)]
 
-fn main() {
-    planning::run();
+use std::io;
+
+fn main(rt: HostRuntime) -> io::Result<()> {
+    planning::run(&mut rt.stdin(), &mut rt.stdout())
 }

@@ -1,6 +1,6 @@
 -- Strings put one behind the other are one string put; so a line grows at its end.
 -- Assumes nothing.
-use Rattle.std.specs.Prelude.{◌≡◌, refl, List, [], ◌∷◌, ◌++◌, ℕ, ◌+◌, ◌≤◌, length, take, drop}
+use Rattle.std.specs.Prelude.{◌≡◌, List, ◌++◌, ℕ, ◌+◌, ◌≤◌, length, take, drop}
 use Rattle.std.proofs.Common.{sym, ap, ◌∙◌, subst, arith, length-append, length-take, take_at}
 use Rattle.bits.specs.Put.{put_at, put_at_then}
 use Rattle.planning.specs.Lines.{Put}

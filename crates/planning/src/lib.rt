@@ -5,34 +5,39 @@
 
 mod lines;
 
-use libc::{STDIN_FILENO, STDOUT_FILENO};
+use console::read_full;
+use std::io;
+use std::io::{Read, Write};
 
 // Answers one request, and whether to go on: not where the input has ended, on a whole request or within one.
-fn answer_one() -> bool {
+fn answer_one(input: &mut impl Read, to: &mut impl Write) -> io::Result<bool> {
     let mut request = [0u8; 5];
-    let got = io::read_full(STDIN_FILENO, &mut request);
+    let got = read_full(input, &mut request)?;
     if got == 0 {
-        return false;
+        return Ok(false);
     }
     if got < 5 {
-        io::write_all(STDOUT_FILENO, b"cut short\n");
-        return false;
+        to.write_all(b"cut short\n")?;
+        return Ok(false);
     }
     let mut line = [0u8; 40];
     let n = lines::put_line(request, &mut line);
-    io::write_all(STDOUT_FILENO, &line[..n])
+    to.write_all(&line[..n])?;
+    Ok(true)
 }
 
-// A proved loop has to end, and nothing says that an input does: it counts down from a number that no run uses up.
-fn answer_all() {
-    let mut turns = u64::MAX;
-    while turns > 0 && answer_one() {
-        turns -= 1;
+// A proved loop has to end, and nothing says that an input does: it has more turns than any run uses up.
+fn answer_all(input: &mut impl Read, to: &mut impl Write) -> io::Result<()> {
+    for _ in 0..u64::MAX {
+        if !answer_one(input, to)? {
+            break;
+        }
     }
+    Ok(())
 }
 
 // The heading, and the answers.
-pub fn run() {
-    io::write_all(STDOUT_FILENO, b"instance assoc text verify total\n");
-    answer_all();
+pub fn run(input: &mut impl Read, to: &mut impl Write) -> io::Result<()> {
+    to.write_all(b"instance assoc text verify total\n")?;
+    answer_all(input, to)
 }

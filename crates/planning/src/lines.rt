@@ -1,6 +1,6 @@
 // The line that answers a request, put together in a buffer.
 ghost use Rattle.std.specs.Prelude.{◌≡◌, ◌+◌, ◌%◌, ◌≤◌, ◌<◌, length, take};
-ghost use Rattle.io.specs.Counts.{IsPrefixLen};
+ghost use Rattle.console.specs.Counts.{IsPrefixLen};
 ghost use Rattle.planning.specs.Lines.{places as Places, digits, decimal, ended, Put, refused, rest, line, pair as Pair, answer};
 
 use plan::Planned;

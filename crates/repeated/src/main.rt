@@ -3,7 +3,8 @@
 #![tactic(auto)]
 
 use case_file::strings::first;
-use libc::STDOUT_FILENO;
+use std::io;
+use std::io::Write;
 
 const INSTANCE: u32 = 1;
 
@@ -19,103 +20,109 @@ fn key() -> [u8; 16] {
     [0, 1, 2, 3, 4, 5, 6, 7, 8, 9, 10, 11, 12, 13, 14, 15]
 }
 
-fn say(words: &[u8]) {
-    io::write_all(STDOUT_FILENO, words);
+fn say(to: &mut impl Write, words: &[u8]) -> io::Result<()> {
+    to.write_all(words)
 }
 
-fn say_byte(byte: u8) {
-    say(b" ");
-    io::print_hex(STDOUT_FILENO, byte as u64, 2);
+fn say_byte(to: &mut impl Write, byte: u8) -> io::Result<()> {
+    say(to, b" ")?;
+    write!(to, "{byte:02x}")
 }
 
 // A row of bytes, each xored with the other row's byte at its place, if that has one.
-fn say_xor(words: &[u8], bytes: &[u8], other: &[u8]) {
-    say(words);
-    let mut i = 0;
-    while i < bytes.len() {
-        let mut byte = bytes[i];
+fn say_xor(to: &mut impl Write, words: &[u8], bytes: &[u8], other: &[u8]) -> io::Result<()> {
+    say(to, words)?;
+    for (i, b) in bytes.iter().enumerate() {
+        let mut byte = *b;
         if i < other.len() {
             byte = byte ^ other[i];
         }
-        say_byte(byte);
-        i += 1;
+        say_byte(to, byte)?;
     }
-    say(b"\n");
+    say(to, b"\n")
 }
 
-fn say_bytes(words: &[u8], bytes: &[u8]) {
-    say_xor(words, bytes, b"");
+fn say_bytes(to: &mut impl Write, words: &[u8], bytes: &[u8]) -> io::Result<()> {
+    say_xor(to, words, bytes, b"")
 }
 
 // Builds the parcel of a text with the counter after `last`, and says what was answered.
-fn build(words: &[u8], last: u64, text: &[u8], out: &mut [u8]) {
+fn build(
+    to: &mut impl Write,
+    words: &[u8],
+    last: u64,
+    text: &[u8],
+    out: &mut [u8],
+) -> io::Result<()> {
     let k = key();
     let built = parcel::build(INSTANCE, &k, STATION, last, text, out);
-    say(words);
-    say(b", last counter ");
-    io::print_decimal(STDOUT_FILENO, last);
-    say(b": number ");
-    io::print_decimal(STDOUT_FILENO, built.number as u64);
-    say(b", counter ");
-    io::print_decimal(STDOUT_FILENO, built.counter);
-    say(b"\n");
+    say(to, words)?;
+    say(to, b", last counter ")?;
+    write!(to, "{last}")?;
+    say(to, b": number ")?;
+    write!(to, "{}", built.number)?;
+    say(to, b", counter ")?;
+    write!(to, "{}", built.counter)?;
+    say(to, b"\n")
 }
 
-fn say_texts(a: &[u8], b: &[u8]) {
-    say_bytes(b"text A   ", a);
-    say_bytes(b"text B   ", b);
-    say_xor(b"xor      ", a, b);
+fn say_texts(to: &mut impl Write, a: &[u8], b: &[u8]) -> io::Result<()> {
+    say_bytes(to, b"text A   ", a)?;
+    say_bytes(to, b"text B   ", b)?;
+    say_xor(to, b"xor      ", a, b)
 }
 
 // Two parcels: their headers, their ciphertexts and the xor of these.
-fn say_parcels(a: &[u8], b: &[u8]) {
-    say_bytes(b"header A ", first(a, HEADER));
-    say_bytes(b"header B ", first(b, HEADER));
-    say_bytes(b"sealed A ", parcel::cipher(a));
-    say_bytes(b"sealed B ", parcel::cipher(b));
-    say_xor(b"xor      ", parcel::cipher(a), parcel::cipher(b));
+fn say_parcels(to: &mut impl Write, a: &[u8], b: &[u8]) -> io::Result<()> {
+    say_bytes(to, b"header A ", first(a, HEADER))?;
+    say_bytes(to, b"header B ", first(b, HEADER))?;
+    say_bytes(to, b"sealed A ", parcel::cipher(a))?;
+    say_bytes(to, b"sealed B ", parcel::cipher(b))?;
+    say_xor(to, b"xor      ", parcel::cipher(a), parcel::cipher(b))
 }
 
 // One counter for two texts of equal length. Gives the parcel of the first.
-fn twice(a: &[u8], b: &[u8]) -> [u8; 49] {
+fn twice(to: &mut impl Write, a: &[u8], b: &[u8]) -> io::Result<[u8; 49]> {
     let mut parcel_a = [0u8; 49];
     let mut parcel_b = [0u8; 49];
-    build(b"\ntext A", LAST, a, &mut parcel_a);
-    build(b"text B", LAST, b, &mut parcel_b);
-    say_parcels(&parcel_a, &parcel_b);
-    parcel_a
+    build(to, b"\ntext A", LAST, a, &mut parcel_a)?;
+    build(to, b"text B", LAST, b, &mut parcel_b)?;
+    say_parcels(to, &parcel_a, &parcel_b)?;
+    Ok(parcel_a)
 }
 
 // The same counter again: for the first part of a text, and for what was sealed of it.
-fn again(a: &[u8], sealed: &[u8]) {
+fn again(to: &mut impl Write, a: &[u8], sealed: &[u8]) -> io::Result<()> {
     let mut short = [0u8; 42];
     build(
+        to,
         b"\nthe first 11 bytes of text A",
         LAST,
         first(a, 11),
         &mut short,
-    );
-    say_bytes(b"sealed   ", parcel::cipher(&short));
+    )?;
+    say_bytes(to, b"sealed   ", parcel::cipher(&short))?;
     let mut back = [0u8; 49];
-    build(b"\nsealed A as a text", LAST, sealed, &mut back);
-    say_bytes(b"sealed   ", parcel::cipher(&back));
+    build(to, b"\nsealed A as a text", LAST, sealed, &mut back)?;
+    say_bytes(to, b"sealed   ", parcel::cipher(&back))
 }
 
 // The counter that was handed back, and the largest, which has no next.
-fn next(b: &[u8], sealed: &[u8]) {
+fn next(to: &mut impl Write, b: &[u8], sealed: &[u8]) -> io::Result<()> {
     let mut parcel_b = [0u8; 49];
-    build(b"\ntext B", LAST + 1, b, &mut parcel_b);
-    say_bytes(b"sealed B ", parcel::cipher(&parcel_b));
-    say_xor(b"xor      ", sealed, parcel::cipher(&parcel_b));
-    build(b"\ntext B", u64::MAX, b, &mut parcel_b);
+    build(to, b"\ntext B", LAST + 1, b, &mut parcel_b)?;
+    say_bytes(to, b"sealed B ", parcel::cipher(&parcel_b))?;
+    say_xor(to, b"xor      ", sealed, parcel::cipher(&parcel_b))?;
+    build(to, b"\ntext B", u64::MAX, b, &mut parcel_b)
 }
 
-fn main() {
+fn main(rt: HostRuntime) -> io::Result<()> {
+    let to = &mut rt.stdout();
     let a = b"shift clock +17 us";
     let b = b"shift clock -42 us";
-    say_texts(a, b);
-    let parcel_a = twice(a, b);
+    say_texts(to, a, b)?;
+    let parcel_a = twice(to, a, b)?;
     let sealed = parcel::cipher(&parcel_a);
-    again(a, sealed);
-    next(b, sealed);
+    again(to, a, sealed)?;
+    next(to, b, sealed)
 }

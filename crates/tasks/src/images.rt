@@ -4,9 +4,9 @@ use crate::lines::{Case, say_case, say_kept};
 use crate::messages::seed;
 use crate::wrong;
 use case_file::filling::{checksum, fill};
-use case_file::tally::say;
 use isap::Job;
-use libc::STDOUT_FILENO;
+use std::io;
+use std::io::Write;
 
 const INDEX: u32 = 5;
 
@@ -23,7 +23,7 @@ fn zeros() -> [u8; 1048576] {
 }
 
 // What every run of an image is given.
-#[derive(Drop)]
+#[derive(Clone, Copy)]
 struct Given {
     instance: u32,
     key: [u8; 16],
@@ -74,7 +74,15 @@ fn forged(g: Given) -> Job {
 }
 
 // Runs the task on a record, says the line, and hands the record back.
-fn said(name: &[u8], g: Given, job: Job, text: &[u8], out: &mut [u8], turns: u32) -> Job {
+fn said(
+    to: &mut impl Write,
+    name: &[u8],
+    g: Given,
+    job: Job,
+    text: &[u8],
+    out: &mut [u8],
+    turns: u32,
+) -> io::Result<Job> {
     let data = g.data;
     let kept = task::run(job, &data, text, out, 1000, turns);
     let case = Case {
@@ -84,11 +92,11 @@ fn said(name: &[u8], g: Given, job: Job, text: &[u8], out: &mut [u8], turns: u32
         budget: 1000,
         turns,
     };
-    say_case(name, case);
-    say_kept(kept);
-    io::print_hex(STDOUT_FILENO, checksum(out), 16);
-    say(b"\n");
-    kept.job
+    say_case(to, name, case)?;
+    say_kept(to, kept)?;
+    let sum = checksum(out);
+    writeln!(to, "{sum:016x}")?;
+    Ok(kept.job)
 }
 
 // Turns after which some of the image is sealed and some is not.
@@ -103,37 +111,53 @@ fn amid_the_image(instance: u32) -> u32 {
 }
 
 // In part by one run of the task, and to the end by another. Hands back the tag.
-fn sealed(g: Given, image: &[u8], cipher: &mut [u8]) -> [u8; 16] {
+fn sealed(to: &mut impl Write, g: Given, image: &[u8], cipher: &mut [u8]) -> io::Result<[u8; 16]> {
     fill(cipher, g.before);
     let amid = said(
+        to,
         b"part",
         g,
         sealing(g),
         image,
         cipher,
         amid_the_image(g.instance),
-    );
-    let ended = said(b"rest", g, amid, image, cipher, ENOUGH);
-    ended.tag
+    )?;
+    let ended = said(to, b"rest", g, amid, image, cipher, ENOUGH)?;
+    Ok(ended.tag)
 }
 
-fn opened(name: &[u8], g: Given, tag: [u8; 16], cipher: &[u8], out: &mut [u8]) {
+fn opened(
+    to: &mut impl Write,
+    name: &[u8],
+    g: Given,
+    tag: [u8; 16],
+    cipher: &[u8],
+    out: &mut [u8],
+) -> io::Result<()> {
     fill(out, g.before);
-    said(name, g, opening(g, tag), cipher, out, ENOUGH);
+    said(to, name, g, opening(g, tag), cipher, out, ENOUGH)?;
+    Ok(())
 }
 
 // With the tag and with a wrong one, and what cannot stand.
-fn received(g: Given, tag: [u8; 16], cipher: &[u8], out: &mut [u8]) {
-    opened(b"open", g, tag, cipher, out);
-    opened(b"wrong", g, wrong(tag), cipher, out);
-    said(b"forged", g, forged(g), cipher, out, ENOUGH);
+fn received(
+    to: &mut impl Write,
+    g: Given,
+    tag: [u8; 16],
+    cipher: &[u8],
+    out: &mut [u8],
+) -> io::Result<()> {
+    opened(to, b"open", g, tag, cipher, out)?;
+    opened(to, b"wrong", g, wrong(tag), cipher, out)?;
+    said(to, b"forged", g, forged(g), cipher, out, ENOUGH)?;
+    Ok(())
 }
 
-pub fn of_instance(instance: u32) {
+pub fn of_instance(to: &mut impl Write, instance: u32) -> io::Result<()> {
     let mut image = zeros();
     let mut cipher = zeros();
     let g = filled(instance, &mut image);
-    let tag = sealed(g, &image, &mut cipher);
+    let tag = sealed(to, g, &image, &mut cipher)?;
     let mut out = zeros();
-    received(g, tag, &cipher, &mut out);
+    received(to, g, tag, &cipher, &mut out)
 }

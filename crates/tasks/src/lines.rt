@@ -4,16 +4,16 @@ use crate::runs::{Left, Run};
 use crate::{records, runs};
 use case_file::strings::first;
 use case_file::tally::say;
-use libc::STDOUT_FILENO;
+use std::io;
+use std::io::Write;
 use task::Kept;
 
-fn say_number(n: u32) {
-    io::print_decimal(STDOUT_FILENO, n as u64);
-    say(b" ");
+fn say_number(to: &mut impl Write, n: u32) -> io::Result<()> {
+    write!(to, "{n} ")
 }
 
 // What a line says before a run's answers.
-#[derive(Drop)]
+#[derive(Clone, Copy)]
 pub struct Case {
     pub instance: u32,
     pub assoc: u32,
@@ -22,25 +22,25 @@ pub struct Case {
     pub turns: u32,
 }
 
-pub fn say_case(job: &[u8], c: Case) {
-    say_number(c.instance);
-    say(job);
-    say(b" ");
-    say_number(c.assoc);
-    say_number(c.text);
-    say_number(c.budget);
-    say_number(c.turns);
+pub fn say_case(to: &mut impl Write, job: &[u8], c: Case) -> io::Result<()> {
+    say_number(to, c.instance)?;
+    say(to, job)?;
+    say(to, b" ")?;
+    say_number(to, c.assoc)?;
+    say_number(to, c.text)?;
+    say_number(to, c.budget)?;
+    say_number(to, c.turns)
 }
 
-pub fn say_kept(kept: Kept) {
+pub fn say_kept(to: &mut impl Write, kept: Kept) -> io::Result<()> {
     let turns = kept.turns;
     let job = kept.job;
-    say_number(turns.number);
-    say_number(turns.served);
-    say_number(turns.waited);
-    say_number(job.done);
-    io::print_hex(STDOUT_FILENO, records::sum(job), 16);
-    say(b" ");
+    say_number(to, turns.number)?;
+    say_number(to, turns.served)?;
+    say_number(to, turns.waited)?;
+    say_number(to, job.done)?;
+    let sum = records::sum(job);
+    write!(to, "{sum:016x} ")
 }
 
 fn wide(b: u8) -> u64 {
@@ -48,19 +48,19 @@ fn wide(b: u8) -> u64 {
 }
 
 // In hex, `-` for none.
-fn say_bytes(s: &[u8]) {
+fn say_bytes(to: &mut impl Write, s: &[u8]) -> io::Result<()> {
     if s.len() == 0 {
-        say(b"-");
+        say(to, b"-")?;
     }
-    let mut i = 0;
-    while i < s.len() {
-        io::print_hex(STDOUT_FILENO, wide(s[i]), 2);
-        i += 1;
+    for b in s {
+        let n = wide(*b);
+        write!(to, "{n:02x}")?;
     }
+    Ok(())
 }
 
 // Does a run, and says its line.
-pub fn said(job: &[u8], m: Message, run: Run) -> Left {
+pub fn said(to: &mut impl Write, job: &[u8], m: Message, run: Run) -> io::Result<Left> {
     let left = runs::done(m, run);
     let kept = left.kept;
     let out = left.out;
@@ -71,9 +71,9 @@ pub fn said(job: &[u8], m: Message, run: Run) -> Left {
         budget: run.budget,
         turns: run.turns,
     };
-    say_case(job, case);
-    say_kept(kept);
-    say_bytes(first(&out, run.out));
-    say(b"\n");
-    left
+    say_case(to, job, case)?;
+    say_kept(to, kept)?;
+    say_bytes(to, first(&out, run.out))?;
+    say(to, b"\n")?;
+    Ok(left)
 }

@@ -14,6 +14,8 @@ use isap::Job;
 use lines::said;
 use messages::{Message, filled};
 use runs::{Left, Run, done};
+use std::io;
+use std::io::Write;
 
 // More turns than a job of these messages has rounds.
 const ENOUGH: u32 = 20000;
@@ -71,19 +73,20 @@ fn record_of(left: Left) -> Job {
 }
 
 // Sealed, and the ciphertext opened with the tag that the sealing's record holds, and with a wrong one.
-fn to_the_end(m: Message, budget: u32) {
-    let sealed = said(b"seal", m, whole_sealing(m, budget));
+fn to_the_end(to: &mut impl Write, m: Message, budget: u32) -> io::Result<()> {
+    let sealed = said(to, b"seal", m, whole_sealing(m, budget))?;
     let cipher = sealed.out;
     let record = record_of(sealed);
     let tag = record.tag;
-    said(b"open", m, of_opening(m, cipher, tag, budget));
-    said(b"wrong", m, of_opening(m, cipher, wrong(tag), budget));
+    said(to, b"open", m, of_opening(m, cipher, tag, budget))?;
+    said(to, b"wrong", m, of_opening(m, cipher, wrong(tag), budget))?;
+    Ok(())
 }
 
-fn by_every_budget(m: Message) {
-    to_the_end(m, 1);
-    to_the_end(m, 25);
-    to_the_end(m, 1000);
+fn by_every_budget(to: &mut impl Write, m: Message) -> io::Result<()> {
+    to_the_end(to, m, 1)?;
+    to_the_end(to, m, 25)?;
+    to_the_end(to, m, 1000)
 }
 
 // The record says one round done, and its place none.
@@ -122,39 +125,46 @@ fn one_too_few(instance: u32) -> u32 {
 }
 
 // Runs that have too few turns, or whose first slice is refused.
-fn short_of_the_end(m: Message) {
+fn short_of_the_end(to: &mut impl Write, m: Message) -> io::Result<()> {
     said(
+        to,
         b"part",
         m,
         of_sealing(m, sealing(m), 1, amid_the_text(m.instance)),
-    );
+    )?;
     said(
+        to,
         b"cut",
         m,
         of_sealing(m, sealing(m), 25, one_too_few(m.instance)),
-    );
-    said(b"none", m, of_sealing(m, sealing(m), 0, 3));
-    said(b"idle", m, of_sealing(m, sealing(m), 25, 0));
+    )?;
+    said(to, b"none", m, of_sealing(m, sealing(m), 0, 3))?;
+    said(to, b"idle", m, of_sealing(m, sealing(m), 25, 0))?;
     let ended = record_of(done(m, whole_sealing(m, 25)));
-    said(b"again", m, of_sealing(m, ended, 25, 5));
-    said(b"forged", m, of_sealing(m, forged(m), 25, 5));
-    said(b"other", m, with_a_short_output(m));
+    said(to, b"again", m, of_sealing(m, ended, 25, 5))?;
+    said(to, b"forged", m, of_sealing(m, forged(m), 25, 5))?;
+    said(to, b"other", m, with_a_short_output(m))?;
+    Ok(())
 }
 
-fn of_instance(instance: u32) {
-    by_every_budget(filled(instance, 1, 0, 0));
-    by_every_budget(filled(instance, 2, 1, 8));
-    by_every_budget(filled(instance, 3, 20, 41));
-    by_every_budget(filled(instance, 4, 256, 100));
-    short_of_the_end(filled(instance, 3, 20, 41));
-    images::of_instance(instance);
+fn of_instance(to: &mut impl Write, instance: u32) -> io::Result<()> {
+    by_every_budget(to, filled(instance, 1, 0, 0))?;
+    by_every_budget(to, filled(instance, 2, 1, 8))?;
+    by_every_budget(to, filled(instance, 3, 20, 41))?;
+    by_every_budget(to, filled(instance, 4, 256, 100))?;
+    short_of_the_end(to, filled(instance, 3, 20, 41))?;
+    images::of_instance(to, instance)
 }
 
-fn main() {
-    say(b"instance job assoc text budget turns number served waited done record out\n");
-    of_instance(1);
-    of_instance(2);
-    of_instance(3);
-    of_instance(4);
-    of_instance(5);
+fn main(rt: HostRuntime) -> io::Result<()> {
+    let to = &mut rt.stdout();
+    say(
+        to,
+        b"instance job assoc text budget turns number served waited done record out\n",
+    )?;
+    of_instance(to, 1)?;
+    of_instance(to, 2)?;
+    of_instance(to, 3)?;
+    of_instance(to, 4)?;
+    of_instance(to, 5)
 }

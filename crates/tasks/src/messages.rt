@@ -4,7 +4,7 @@ ghost use Rattle.std.specs.Prelude.{◌<◌};
 use case_file::filling::fill;
 use case_file::strings::within;
 
-#[derive(Drop)]
+#[derive(Clone, Copy)]
 pub struct Message {
     pub instance: u32,
     // the two lengths in bytes

@@ -21,10 +21,8 @@ fn put_number(s: &mut [u8; 212], at: usize, n: u32)
 fn put_bytes(s: &mut [u8; 212], at: usize, bytes: &[u8])
     requires { at + length bytes.now ≤ 212 }
 {
-    let mut i = 0;
-    while i < bytes.len() {
-        s[at + i] = bytes[i];
-        i += 1;
+    for (i, b) in bytes.iter().enumerate() {
+        s[at + i] = *b;
     }
 }
 

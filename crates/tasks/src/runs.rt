@@ -5,7 +5,7 @@ use isap::Job;
 use task::Kept;
 
 // What a run is given beside the message's associated data.
-#[derive(Drop)]
+#[derive(Clone, Copy)]
 pub struct Run {
     pub job: Job,
     pub text: [u8; 100],
@@ -15,7 +15,7 @@ pub struct Run {
     pub turns: u32,
 }
 
-#[derive(Drop)]
+#[derive(Clone, Copy)]
 pub struct Left {
     pub kept: Kept,
     pub out: [u8; 100],
