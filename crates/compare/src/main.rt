@@ -4,7 +4,6 @@
 #![tactic(auto)]
 
 mod beginning;
-mod calls;
 mod jobs;
 mod messages;
 mod records;
@@ -12,6 +11,7 @@ mod refused;
 mod reports;
 mod room;
 mod shown;
+mod whole_calls;
 
 use case_file::tally::Tally;
 use case_file::verdict::Verdict;

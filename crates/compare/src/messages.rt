@@ -1,8 +1,8 @@
 // Messages: sealed (call 1), opened again (2), and opened with one thing damaged (3).
-use crate::calls;
-use crate::calls::Lent;
 use crate::room::{Room, filled};
 use crate::shown::as_shown;
+use crate::whole_calls;
+use crate::whole_calls::Lent;
 use case_file::strings::{damage, first, same};
 use case_file::verdict::{OUTPUT, Said, TAG, Verdict};
 use case_file::{reading, verdict};
@@ -83,7 +83,7 @@ fn sealed(input: &mut impl Read, m: Message, out: &mut [u8], rounds: u32) -> io:
     let tag = m.tag;
     let text = room.text;
     let mut made = [170u8; 16];
-    let said = calls::seal(lent, room, &text, out, &mut made);
+    let said = whole_calls::seal(lent, room, &text, out, &mut made);
     let expected = Said { number: 0, rounds };
     let answered = verdict::then_said(verdict::no_difference(), said, expected, 1);
     let tagged = verdict::then(answered, same(&made, &tag), TAG, 1);
@@ -110,7 +110,7 @@ fn opened(before: Verdict, m: Message, text: [u8; 4200], rounds: u32) -> Verdict
     let tag = m.tag;
     let cipher = room.text;
     let mut out = room.out;
-    let said = calls::open(lent, room, &cipher, &mut out, &tag);
+    let said = whole_calls::open(lent, room, &cipher, &mut out, &tag);
     let expected = Said { number: 0, rounds };
     let answered = verdict::then_said(before, said, expected, 2);
     verdict::then(
@@ -186,7 +186,7 @@ fn opened_damaged(before: Verdict, m: Message, rounds: u32) -> Verdict {
     let cipher = room.text;
     let kept = room.out;
     let mut out = room.out;
-    let said = calls::open(lent, room, &cipher, &mut out, &tag);
+    let said = whole_calls::open(lent, room, &cipher, &mut out, &tag);
     let expected = Said { number: 8, rounds };
     let answered = verdict::then_said(before, said, expected, 3);
     verdict::then(answered, same(&out, &kept), OUTPUT, 3)

@@ -1,8 +1,8 @@
 // Whole calls that are refused: the number, no rounds, and neither output nor tag touched. They are lent parts of two long
 // arrays, each of one byte again and again: a text may have up to 128 bytes more than the library takes.
-use crate::calls;
-use crate::calls::Lent;
 use crate::room::{Room, filled};
+use crate::whole_calls;
+use crate::whole_calls::Lent;
 use case_file::strings::{first, same};
 use case_file::verdict::{OUTPUT, Said, TAG, Verdict};
 use case_file::{reading, verdict};
@@ -46,9 +46,9 @@ struct Trial {
 
 fn call(c: Trial, text: &[u8], out: &mut [u8], tag: &mut [u8]) -> Said {
     if c.direction == 1 {
-        return calls::seal(c.lent, c.room, text, out, tag);
+        return whole_calls::seal(c.lent, c.room, text, out, tag);
     }
-    calls::open(c.lent, c.room, text, out, &tag[..])
+    whole_calls::open(c.lent, c.room, text, out, &tag[..])
 }
 
 fn read_trial(input: &mut impl Read) -> io::Result<Trial> {
