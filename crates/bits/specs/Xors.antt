@@ -2,7 +2,7 @@
 -- Assumes nothing.
 use Rattle.std.specs.Prelude.{◌≡◌, refl, Bool, true, false, List, [], ◌∷◌, ◌++◌, ℕ, zero, suc, ◌+◌, ◌^◌, ◌≤◌, ◌<◌, min, length, take, drop, replicate}
 use Rattle.std.proofs.Common.{sym, ap, ap₂, ◌∙◌, lt_of_lt_of_le, pow-suc, arith, lit<, pow_mono}
-use Rattle.std.specs.Int.Bits.{bit_xor, xor_zero_l, xor_zero_r}
+use Rattle.std.specs.Int.Bits.{bit_xor, xor_zero_r}
 use Rattle.std.proofs.lemmas.Nat.{xor_lt, xor_comm}
 use Rattle.bits.specs.Digit.{bit, bit-xor, ◌⊕◌}
 use Rattle.bits.specs.Number.{bit_ext}
@@ -103,8 +103,18 @@ xor_common a b c =
     bit-xor (bit_xor a b) (bit_xor a c) z ∙ ap₂ (λ (d e : Bool). d ⊕ e) (bit-xor a b z) (bit-xor a c z)
     ∙ common (bit a z) (bit b z) (bit c z) ∙ sym (bit-xor b c z))
 
+cancel : (a b : Bool) → a ⊕ (a ⊕ b) ≡ b
+cancel true true = refl
+cancel true false = refl
+cancel false b = refl
+
 pub xor_twice : (a b : ℕ) → bit_xor a (bit_xor a b) ≡ b
-xor_twice a b = ap (λ (c : ℕ). bit_xor c (bit_xor a b)) (sym (xor_zero_r a)) ∙ xor_common a 0 b ∙ xor_zero_l b
+xor_twice a b =
+    let w : ℕ = a + b in
+    let ha : a < 2 ^ w = lt_of_lt_of_le (below_pow a) (pow_mono (omega arith)) in
+    let hb : b < 2 ^ w = lt_of_lt_of_le (below_pow b) (pow_mono (omega arith)) in
+    bit_ext w (bit_xor a (bit_xor a b)) b (xor_lt w a (bit_xor a b) ha (xor_lt w a b ha hb)) hb
+    (λ z l. bit-xor a (bit_xor a b) z ∙ ap (λ (c : Bool). bit a z ⊕ c) (bit-xor a b z) ∙ cancel (bit a z) (bit b z))
 
 pub xors_common : (ks xs ys : List ℕ) → length xs ≤ length ks → length ys ≤ length ks → xors (xors ks xs) (xors ks ys) ≡ xors xs ys
 unfolding xors

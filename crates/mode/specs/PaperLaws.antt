@@ -2,24 +2,26 @@
 -- the message back, and why a nonce must not be used for two texts (`enc_twice`, `enc_common`, `enc_first`).
 -- Assumes nothing.
 use Rattle.std.specs.Prelude.{◌≡◌, Bool, length, take}
-use Rattle.std.proofs.Math.Path.{refl, sym, ap}
-use Rattle.std.proofs.Common.{◌∙◌, subst, arith, length-append, length-drop}
-use mathlib.Core.List.{List, [], ◌∷◌, ◌++◌}
-use Prim.Native.Nat.{ℕ, zero, suc, ◌+◌, ◌-◌, ◌*◌, ◌/◌, ◌≤◌, ◌<◌}
-use Rattle.std.proofs.Math.ListN.{drop, length-take, length-replicate}
-use Rattle.std.proofs.Math.Seq.{length-take-le}
+use Rattle.std.proofs.Math.Path.{refl, sym, ap, ap₂}
+use Rattle.std.proofs.Common.{◌∙◌, subst, arith, length-append, length-drop, drop_of_length-le, take_at, drop_at, take_all}
+use mathlib.Core.List.{List, [], ◌∷◌, ◌++◌, append-nil}
+use Prim.Native.Nat.{ℕ, zero, suc, ◌+◌, ◌-◌, ◌*◌, ◌/◌, ◌≤◌, ◌<◌, min}
+use Rattle.std.proofs.Math.ListN.{drop, length-take, length-replicate, take-append-drop}
+use Rattle.std.proofs.Math.Seq.{length-take-le, take-nil, drop-nil}
 use Rattle.bits.specs.Pick.{pick}
 use Rattle.bits.specs.Run.{length-rounds}
-use Rattle.bits.specs.Xors.{xors}
+use Rattle.bits.specs.Xors.{xors, length-xors, xors_twice}
 use Rattle.bits.specs.Strings.{xor_into, xor_at, cut}
 use Rattle.mode.specs.Strings.{padded, bits_of, bit_at, xor_bit}
 use Rattle.bits.specs.StringLaws.{length-xor_into, length-xor_at, same_refl}
 use Rattle.mode.specs.StringLaws.{length-xor_bit}
 use Rattle.mode.specs.Params.{Params, LawfulParams, perm, iv}
 use Rattle.scheme.specs.Machine.{Opened.plaintext, Opened.refused}
-use Rattle.scheme.specs.Squeezing.{squeezed, blocks_of, encrypted, blocks_hold, Squeezes}
-use Rattle.scheme.proofs.Squeezing.{encrypted_long, twice, common, first_part}
+use Rattle.scheme.specs.Squeezing.{squeezed, blocks_of, encrypted, Squeezes}
+use Rattle.scheme.proofs.Squeezing.{common, first_part}
 use Rattle.mode.specs.Paper.{absorb_bits, rekeyed, rekey_mac, rekey_enc, blocks, squeeze, isap_enc, padded_blocks, absorb, hashed, finished, isap_mac, seal, unseal}
+use Rattle.std.proofs.Math.Nat.{suc-mul, zero-mul, div-add-mod', mod-lt}
+use Rattle.std.proofs.Math.Decide.{dec_lt}
 
 module _ (p : Params) (l : LawfulParams p) where
   -- ---- states keep their n bytes
@@ -101,12 +103,89 @@ module _ (p : Params) (l : LawfulParams p) where
       let k = rekeyed p 3 key nonce in
       rw (length-append, length-take-le (p.n - 16) k (omega (arith, rekeyed_long 3 key nonce hk)), hn) (omega arith)
 
-  -- ---- encryption is a squeezing (scheme, Squeezing)
+  -- ---- blocks of a text
 
   -- as many blocks as hold the text
   pub blocks_are : (m : ℕ) → (m ≤ blocks p m * p.b) × (blocks p m * p.b < m + p.b)
-  unfolding blocks blocks_of
-  blocks_are m = blocks_hold p.b l.block m
+  unfolding blocks
+  blocks_are m =
+      let e = div-add-mod' (m + (p.b - 1)) p.b in
+      let r = mod-lt (m + (p.b - 1)) l.block in
+      let z = l.block in
+      (omega arith, omega arith)
+
+  -- ---- encryption undoes itself
+
+  squeeze_none : (t : ℕ) (s : List ℕ) → squeeze p s (cut p.b t []) ≡ []
+  unfolding squeeze cut xors
+  squeeze_none zero s = refl
+  squeeze_none (suc t) s = rw (take-nil, drop-nil) (xors_none (perm p p.s_e s) (squeeze_none t (perm p p.s_e s)))
+    where
+      xors_none : (s : List ℕ) {rest : List ℕ} → rest ≡ [] → xors s [] ++ rest ≡ []
+      xors_none [] e = e
+      xors_none (x ∷ s) e = e
+
+  -- one block: its ciphertext, and the rest
+  module _ (m s : List ℕ) (h : length s ≡ p.n) where
+    key : List ℕ
+    key = perm p p.s_e s
+
+    front : List ℕ
+    front = xors key (take p.b m)
+
+    fits : length (take p.b m) ≤ length key
+    unfolding key
+    fits = omega (arith, length-take p.b m, l.block_fits, perm_long p.s_e s h)
+
+    front_length : length front ≡ min p.b (length m)
+    unfolding front
+    front_length = length-xors key (take p.b m) ∙ omega (arith, fits, length-take p.b m)
+
+    -- the blocks of a ciphertext are the ciphertexts of the blocks
+    front_of : (t : ℕ) → (take p.b (front ++ squeeze p key (cut p.b t (drop p.b m))) ≡ front)
+        × (drop p.b (front ++ squeeze p key (cut p.b t (drop p.b m))) ≡ squeeze p key (cut p.b t (drop p.b m)))
+    front_of t =
+        let rest = squeeze p key (cut p.b t (drop p.b m)) in
+        let len = front_length in
+        elim (dec_lt (length m) p.b) [
+          | yes y ↦
+              let e : rest ≡ [] =
+              ap (λ (u : List ℕ). squeeze p key (cut p.b t u)) (drop_of_length-le m {i = p.b} (omega arith)) ∙ squeeze_none t key in (
+                ap (λ (u : List ℕ). take p.b (front ++ u)) e ∙ ap (take p.b) (append-nil front) ∙ take_all p.b front (omega arith),
+                ap (λ (u : List ℕ). drop p.b (front ++ u)) e ∙ ap (drop p.b) (append-nil front)
+                    ∙ drop_of_length-le front {i = p.b} (omega arith) ∙ sym e,
+              )
+          | no z ↦ (take_at front rest p.b (omega arith), drop_at front rest p.b (omega arith))
+        ]
+
+  squeeze-length : (t : ℕ) (s m : List ℕ) → length s ≡ p.n → length m ≤ t * p.b → length (squeeze p s (cut p.b t m)) ≡ length m
+  unfolding squeeze cut front key
+  squeeze-length zero s m h b = omega (arith, zero-mul p.b)
+  squeeze-length (suc t) s m h b =
+      let q = suc-mul t p.b in
+      length-append (front m s h) (squeeze p (perm p p.s_e s) (cut p.b t (drop p.b m)))
+      ∙ omega (
+        arith,
+        front_length m s h,
+        length-drop p.b m,
+        squeeze-length t (perm p p.s_e s) (drop p.b m) (perm_long p.s_e s h) (omega (arith, length-drop p.b m)),
+      )
+
+  squeeze_twice : (t : ℕ) (s m : List ℕ) → length s ≡ p.n → length m ≤ t * p.b
+      → squeeze p s (cut p.b t (squeeze p s (cut p.b t m))) ≡ m
+  unfolding squeeze cut front key
+  squeeze_twice zero s [] h b = refl
+  squeeze_twice zero s (a ∷ m) h b = absurd (omega (arith, zero-mul p.b))
+  squeeze_twice (suc t) s m h b =
+      let q = suc-mul t p.b in
+      let k = perm p p.s_e s in
+      let f = front_of m s h t in
+      ap₂ (λ (u v : List ℕ). xors k u ++ squeeze p k (cut p.b t v)) f.0 f.1
+      ∙ ap₂ (λ (u v : List ℕ). u ++ v) (xors_twice k (take p.b m) (fits m s h))
+      (squeeze_twice t k (drop p.b m) (perm_long p.s_e s h) (omega (arith, length-drop p.b m)))
+      ∙ take-append-drop p.b m
+
+  -- ---- encryption is a squeezing (scheme, Squeezing)
 
   squeezes : Squeezes p.n p.b (perm p p.s_e)
   squeezes = record { some = l.block; fits = l.block_fits; keeps = perm_long p.s_e }
@@ -126,11 +205,16 @@ module _ (p : Params) (l : LawfulParams p) where
 
     -- a ciphertext is as long as its text
     pub enc_length : (m : List ℕ) → length (isap_enc p key nonce m) ≡ length m
-    enc_length = subst (λ (enc : List ℕ → List ℕ). (m : List ℕ) → length (enc m) ≡ length m) enc_is (encrypted_long squeezes start (key_long_lem key nonce hk hn))
+    unfolding isap_enc
+    enc_length m =
+        squeeze-length (blocks p (length m)) (rekey_enc p key nonce ++ nonce) m (key_long_lem key nonce hk hn) (blocks_are (length m)).0
 
     -- encryption applied twice gives the text back
     pub enc_twice : (m : List ℕ) → isap_enc p key nonce (isap_enc p key nonce m) ≡ m
-    enc_twice = subst (λ (enc : List ℕ → List ℕ). (m : List ℕ) → enc (enc m) ≡ m) enc_is (twice squeezes start (key_long_lem key nonce hk hn))
+    unfolding isap_enc
+    enc_twice m =
+        ap (λ (n : ℕ). squeeze p (rekey_enc p key nonce ++ nonce) (cut p.b (blocks p n) (isap_enc p key nonce m))) (enc_length m)
+        ∙ squeeze_twice (blocks p (length m)) (rekey_enc p key nonce ++ nonce) m (key_long_lem key nonce hk hn) (blocks_are (length m)).0
 
     -- the xor of two ciphertexts is the xor of their texts; of two lengths, as far as the shorter goes
     pub enc_common : (m m' : List ℕ) → xors (isap_enc p key nonce m) (isap_enc p key nonce m') ≡ xors m m'

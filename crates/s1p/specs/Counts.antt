@@ -1,13 +1,12 @@
 -- How many rounds a job takes: request (iv)'s formulas, and the shapes of the parts. That the rows have so many rounds is shown in proofs/
 -- (`Counts`).
 -- Assumes nothing.
-use Rattle.std.specs.Prelude.{◌≡◌, Bool, List, [], ◌∷◌, ℕ, zero, suc, ◌+◌, ◌-◌, ◌*◌, ◌≤◌, ◌<◌, eqb}
+use Rattle.std.specs.Prelude.{◌≡◌, Bool, List, [], ◌∷◌, ℕ, zero, suc, ◌+◌, ◌-◌, ◌*◌, ◌/◌, ◌%◌, ◌≤◌, ◌<◌, eqb}
 use Rattle.std.proofs.Math.Path.{refl}
-use Rattle.std.proofs.Common.{arith, lit<}
+use Rattle.std.proofs.Common.{div-add-mod', mod-lt, arith, lit<}
 use Rattle.std.proofs.Math.Bool.{true, false}
 use Rattle.bits.specs.Pick.{pick}
 use Rattle.stopping.specs.Parts.{Shape, rounds_in, EachSome}
-use Rattle.scheme.specs.Squeezing.{blocks_of, blocks_hold}
 use Rattle.s1p.specs.Paper.{blocks}
 use Rattle.s1p.specs.Parts.{unless_empty}
 
@@ -38,8 +37,12 @@ walk_calls a m kind = pick (eqb kind 2) (blocks a) (pick (eqb kind 3) (blocks m)
 -- ---- a string's blocks cover it, and none of them is empty
 
 pub blocks_are : (m : ℕ) → (m ≤ blocks m * 32) × (blocks m * 32 < m + 32)
-unfolding blocks blocks_of
-blocks_are m = blocks_hold 32 (lit< tt) m
+unfolding blocks
+blocks_are m =
+    let q = (m + 31) / 32 in
+    let e = div-add-mod' (m + 31) 32 in
+    let r : (m + 31) % 32 < 32 = mod-lt (m + 31) (lit< tt) in
+    (omega arith, omega arith)
 
 pub blocks_some : (m : ℕ) → 0 < m → 0 < blocks m
 blocks_some m h = omega (arith, (blocks_are m).0)
