@@ -6,9 +6,7 @@ ghost use Rattle.station.specs.Statements.{KeepsSlice};
 
 use isap::{Answer, Job};
 
-// A slice of the job at its place: the record that `isap::slice` gives for it is stored there, on 9 to 11 the one that was there. Covered
-// code cannot call this: a function that makes or takes a `&mut Job` is proved by hand, as `task::run` is. With no such reference among its
-// own parameters, as there, that function is then called like any other.
+// A slice of the job at its place: the record that `isap::slice` gives for it is stored there, on 9 to 11 the one that was there.
 pub fn slice_kept(job: &mut Job, assoc: &[u8], text: &[u8], out: &mut [u8], budget: u32) -> Answer
     ensures { KeepsSlice scheme_of job.old assoc.now text.now out.old budget result job.new out.new }
 {
