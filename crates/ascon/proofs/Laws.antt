@@ -7,10 +7,10 @@ use Rattle.std.proofs.lemmas.Nat.{xor_lt}
 use Rattle.bits.specs.Digit.{bit}
 use Rattle.bits.specs.Number.{number_lt}
 use Rattle.bits.specs.Rotate.{rotr, rotr_lt}
-use Rattle.bits.specs.Bytes.{Bytes, bytes_take, bytes_drop, bytes-append}
-use Rattle.bits.specs.BigEndian.{be_bytes, from_be, bytes-be_bytes, from_be_lt, from_be-be_bytes, be_bytes-from_be}
+use Rattle.bits.specs.Bytes.{Bytes, bytes_take, bytes_drop}
+use Rattle.bits.specs.BigEndian.{be_bytes, from_be, from_be_lt, from_be-be_bytes, be_bytes-from_be}
 use Rattle.bits.specs.Part.{length_part, parts, parts-take}
-use Rattle.bits.specs.Run.{Keeps, rounds, turns}
+use Rattle.bits.specs.Run.{rounds, turns}
 use Rattle.ascon.specs.declared.Words.{Words}
 use Rattle.ascon.specs.Permutation.{sbox, column, substituted, p_c, p_s, sigma, p_l, p, words_of, bytes_of, ascon_round, ascon_p}
 use Rattle.ascon.specs.Laws.{Fit}
@@ -60,17 +60,6 @@ pub words_of-bytes_of : (w : Words) → Fit w → words_of (bytes_of w) ≡ w
 unfolding words_of bytes_of be_bytes
 words_of-bytes_of w h = λ i. record { x0 = back h.f0 i; x1 = back h.f1 i; x2 = back h.f2 i; x3 = back h.f3 i; x4 = back h.f4 i }
 
-pub length-bytes_of : (w : Words) → length (bytes_of w) ≡ 40
-unfolding bytes_of be_bytes
-length-bytes_of w = refl
-
-pub bytes-bytes_of : (w : Words) → Bytes (bytes_of w)
-unfolding bytes_of
-bytes-bytes_of w =
-    bytes-append
-    (bytes-append (bytes-append (bytes-append (bytes-be_bytes 8 w.x0) (bytes-be_bytes 8 w.x1)) (bytes-be_bytes 8 w.x2)) (bytes-be_bytes 8 w.x3))
-    (bytes-be_bytes 8 w.x4)
-
 -- ---- bytes to words and back
 
 module _ (s : List ℕ) (l : 40 ≤ length s) (h : Bytes s) where
@@ -108,10 +97,6 @@ module _ (s : List ℕ) (l : 40 ≤ length s) (h : Bytes s) where
       (λ i. b0 i ++ b1 i ++ b2 i ++ b3 i ++ b4 i) ∙ parts-take 5 8 s
 
 -- ---- a round on the state's bytes, and a call
-
-pub ascon_keeps : Keeps 40 ascon_round
-unfolding ascon_round
-ascon_keeps = record { long = λ i s l. length-bytes_of (p i (words_of s)); bytes = λ i s l h. bytes-bytes_of (p i (words_of s)) }
 
 -- a round on words is the round on the bytes that they stand for
 pub round-bytes : (i : ℕ) (w : Words) → Fit w → bytes_of (p i w) ≡ ascon_round i (bytes_of w)

@@ -14,3 +14,4 @@ pub mod Strings
 pub mod StringLaws
 pub mod Part
 pub mod Run
+pub mod Library

@@ -1,7 +1,7 @@
 -- Rotation of a word of w digits, by its digits. The machine's form is an `or` of two shifts.
 -- Assumes nothing.
 use Rattle.std.specs.Prelude.{◌≡◌, refl, Bool, true, false, ◌||◌, ℕ, zero, suc, ◌+◌, ◌-◌, ◌*◌, ◌/◌, ◌%◌, ◌^◌, ◌≤◌, ◌<◌}
-use Rattle.std.proofs.Common.{sym, ap, ap₂, ◌∙◌, subst, mod-lt, mod-eq_of_lt, mul-one, div-one, lt_of_le_of_lt, add_comm, add-sub_of_le, arith, pow_pos}
+use Rattle.std.proofs.Common.{sym, ap, ap₂, ◌∙◌, subst, mod-lt, mod-eq_of_lt, mul-one, div-one, lt_of_le_of_lt, add_comm, add-zero, add-sub_of_le, arith, pow_pos}
 use Rattle.std.proofs.Math.Nat.{mod_self, sub-zero, add-mod_left, add-mod_right}
 use Rattle.std.proofs.Math.Decide.{dec_lt}
 use Rattle.std.proofs.lemmas.Nat.{shr_le, or_lt, or_comm}
@@ -93,3 +93,13 @@ rotl_shifts w (suc n) x l h =
     let e : suc n + m ≡ w = omega arith in
     ap (λ (k : ℕ). bit_or (x * 2 ^ suc n % 2 ^ w) (x / 2 ^ k)) (mod-eq_of_lt short)
     ∙ or_comm (x * 2 ^ suc n % 2 ^ w) (x / 2 ^ m) ∙ rotr_shifts w m (suc n) x (add_comm m (suc n) ∙ e) h ∙ sym (rotl-rotr w (suc n) m x e)
+
+-- `(x >> n) | (x << ((w - n) % w))`, likewise
+pub rotr_turn : (w n x : ℕ) → n < w → x < 2 ^ w → bit_or (x / 2 ^ n) (x * 2 ^ ((w - n) % w) % 2 ^ w) ≡ rotr w n x
+unfolding rotr
+rotr_turn w zero x l h =
+    ap₂ bit_or (div-one x) (ap (λ (k : ℕ). x * 2 ^ (k % w) % 2 ^ w) (sub-zero w) ∙ ap (λ (k : ℕ). x * 2 ^ k % 2 ^ w) (mod_self w) ∙ ap (λ (y : ℕ). y % 2 ^ w) (mul-one x) ∙ mod-eq_of_lt h)
+    ∙ or_self x ∙ is_number w x (λ k. bit x ((k + 0) % w)) h (λ k l. ap (bit x) (sym (ap (λ (j : ℕ). j % w) (add-zero k) ∙ mod-eq_of_lt l)))
+rotr_turn w (suc n) x l h =
+    let short : w - suc n < w = omega arith in
+    ap (λ (k : ℕ). bit_or (x / 2 ^ suc n) (x * 2 ^ k % 2 ^ w)) (mod-eq_of_lt short) ∙ rotr_shifts w (suc n) (w - suc n) x (omega arith) h

@@ -5,7 +5,7 @@ use Rattle.std.specs.Prelude.{◌≡◌, take}
 use Rattle.std.proofs.Math.Path.{refl, sym, ap, ap₂}
 use Rattle.std.proofs.Common.{◌∙◌, add-zero, add-suc, add_assoc, add-one, arith, length-take, length-drop, drop_of_length-le, take_at, drop_at, take_all}
 use mathlib.Core.List.{List, ◌++◌, append-nil}
-use Prim.Native.Nat.{ℕ, zero, suc, ◌+◌, ◌≤◌}
+use Prim.Native.Nat.{ℕ, zero, suc, ◌+◌, ◌-◌, ◌≤◌}
 use Rattle.std.proofs.Math.Nat.{add-sub_of_le, min-eq_left}
 use Rattle.std.proofs.Math.ListN.{length, drop, length-append}
 use Rattle.bits.specs.Bytes.{Bytes, bytes_take, bytes_drop, bytes-append}
@@ -37,6 +37,14 @@ module _ {S : Type 0} where
   -- the same, as a loop counts
   pub rounds-next : (r : ℕ → S → S) (from k : ℕ) (s u v : S) → u ≡ rounds r from k s → v ≡ r (from + k) u → v ≡ rounds r from (k + 1) s
   rounds-next r from k s u v e f = f ∙ ap (r (from + k)) e ∙ sym (rounds_more r from k s) ∙ ap (λ (n : ℕ). rounds r from n s) (sym (add-one k))
+
+  -- and as a loop goes over the indices themselves
+  pub rounds_next-at : (r : ℕ → S → S) (from i : ℕ) (s u v : S) → from ≤ i → u ≡ rounds r from (i - from) s → v ≡ r i u
+      → v ≡ rounds r from (i + 1 - from) s
+  rounds_next-at r from i s u v h e f =
+      let here : i ≡ from + (i - from) = omega arith in
+      let next : i - from + 1 ≡ i + 1 - from = omega arith in
+      rounds-next r from (i - from) s u v e (f ∙ ap (λ (n : ℕ). r n u) here) ∙ ap (λ (n : ℕ). rounds r from n s) next
 
   pub rounds-add : (r : ℕ → S → S) (from j k : ℕ) (s : S) → rounds r from (j + k) s ≡ rounds r (from + j) k (rounds r from j s)
   unfolding rounds

@@ -1,8 +1,10 @@
 // The call at which a job stands, done by the code of its instance's scheme: what goes with its first round, some of its rounds, what goes
 // with its last, several whole calls, and the decision. A further scheme is a further branch here.
+// A job's bytes go to each call by name and not as a struct: each needs others of them, and the output is read by some and written by some.
 // Where Spook's code has a call for a sealing and one for each walk of an opening (whose second begins with part 5), it is for the
 // compiler: what is called in one place it takes into its caller, and there it takes the buffers of ISAP's calls apart into bytes along
 // with Spook's.
+// What takes a job's arrays by value is compiled into its caller, here and in isap: a call of its own would copy them onto the stack.
 #![tactic(auto)]
 
 mod of_isap;
@@ -18,6 +20,7 @@ use plan::Place;
 use strings::Two;
 
 // The state and the session bytes that the first round of the call meets.
+#[inline(always)]
 pub fn enter(
     instance: u32,
     sealing: bool,
@@ -37,12 +40,14 @@ pub fn enter(
     if plan::is_spook(instance) {
         let two = Two { state, session };
         if sealing {
-            return spook::enter(true, at.part, at.call, nonce, tag, two, assoc, text, out);
+            return spook::enter(true, at.part, at.call, nonce, tag, &two, assoc, text, out);
         }
         if at.part < 5 {
-            return spook::enter(false, at.part, at.call, nonce, tag, two, assoc, text, out);
+            return spook::enter(false, at.part, at.call, nonce, tag, &two, assoc, text, out);
         }
-        return spook::enter(sealing, at.part, at.call, nonce, tag, two, assoc, text, out);
+        return spook::enter(
+            sealing, at.part, at.call, nonce, tag, &two, assoc, text, out,
+        );
     }
     of_isap::enter(
         instance, sealing, at, key, nonce, state, session, assoc, text, out,
@@ -50,6 +55,7 @@ pub fn enter(
 }
 
 // The state after `count` rounds more of the call.
+#[inline(always)]
 pub fn rounds(
     instance: u32,
     sealing: bool,
@@ -75,6 +81,7 @@ pub fn rounds(
 }
 
 // What the last round of the call leaves: in the output, and as the tag that is handed back.
+#[inline(always)]
 pub fn leave(
     instance: u32,
     sealing: bool,
@@ -95,6 +102,7 @@ pub fn leave(
 }
 
 // What the decision would say.
+#[inline(always)]
 pub fn decide(
     instance: u32,
     sealing: bool,
@@ -125,6 +133,7 @@ pub fn has_row(instance: u32, sealing: bool, part: u32) -> bool
 }
 
 // The state after so many whole calls of such a part, neither its first nor its last.
+#[inline(always)]
 pub fn go(
     instance: u32,
     sealing: bool,

@@ -1,17 +1,19 @@
 // The call at which a job of an ISAP instance stands: the part at a place is the one of its kind.
-ghost use Rattle.std.specs.Prelude.{◌≡◌, true, false, List, ℕ, ◌+◌, ◌-◌, ◌≤◌, ◌<◌, length};
+ghost use Rattle.std.specs.Prelude.{◌≡◌, true, false, List, ℕ, ◌+◌, ◌-◌, ◌≤◌, ◌<◌, eqb, length};
 ghost use Rattle.scheme.specs.Machine.{given, machine};
 ghost use Rattle.scheme.specs.Scheme.{parts_of};
 ghost use Rattle.scheme.specs.Calls.{At, Rest, Inner, Enters, Turns, Leaves, Goes, Decides};
 ghost use Rattle.mode.specs.Instances.{params_of};
 ghost use Rattle.mode.specs.Isap.{isap_scheme};
 ghost use Rattle.plan.specs.Kinds.{kind_of};
+ghost use Rattle.plan.specs.KindNumbers.{kind_number};
 ghost use Rattle.rows.specs.Gone.{many};
 
-use plan::Place;
+use plan::{Kind, Place};
 use strings::Two;
 
 // The state and the session bytes that the first round of the call meets.
+#[inline(always)]
 pub fn enter(
     instance: u32,
     sealing: bool,
@@ -38,11 +40,11 @@ fn index_of(instance: u32, rounds: u32, round: u32) -> u32
     requires { (rounds ≤ (params_of instance).most) × (round ≤ rounds) }
     ensures { result ≡ (params_of instance).most - rounds + round }
 {
-    let q = plan::numbers_of(instance);
-    q.most - rounds + round
+    plan::numbers_of(instance).most - rounds + round
 }
 
 // The state after `count` rounds more of the call.
+#[inline(always)]
 pub fn rounds(instance: u32, sealing: bool, at: Place, state: [u8; 64], count: u32) -> [u8; 64]
     requires { Rest (isap_scheme (params_of instance)) sealing at.part at.round count }
     ensures { (key session : List ℕ) → Turns (isap_scheme (params_of instance)) sealing key at.part at.round count state session result }
@@ -53,7 +55,22 @@ pub fn rounds(instance: u32, sealing: bool, at: Place, state: [u8; 64], count: u
     sponge::permute(instance, state, from, count)
 }
 
+// Whether a call of the kind writes a block of the text.
+fn writes(kind: Kind) -> bool
+    ensures { result ≡ eqb (kind_number kind) 3 }
+{
+    kind == Kind::Texts
+}
+
+// Whether it is the MAC's last.
+fn ends(kind: Kind) -> bool
+    ensures { result ≡ eqb (kind_number kind) 10 }
+{
+    kind == Kind::MacEnd
+}
+
 // What the last round of the call leaves: in the output, and as the tag that is handed back.
+#[inline(always)]
 pub fn leave(
     instance: u32,
     sealing: bool,
@@ -68,11 +85,12 @@ pub fn leave(
     ensures { Leaves (isap_scheme (params_of instance)) sealing at.part at.call assoc.now text.now state out.old tag out.new result }
 {
     let kind = plan::kind_of(sealing, at.part);
-    sponge::leave_out(out, text, instance, kind, at.call, state);
-    sponge::leave_tag(sealing, kind, state, tag)
+    sponge::leave_out(out, text, instance, writes(kind), at.call, state);
+    sponge::leave_tag(sealing, ends(kind), state, tag)
 }
 
 // What an opening's decision says.
+#[inline(always)]
 pub fn decide(instance: u32, tag: [u8; 16], state: [u8; 64]) -> bool
     ensures { (session : List ℕ) → Decides (isap_scheme (params_of instance)) false state session tag result }
 {
@@ -89,6 +107,7 @@ pub fn has_row(instance: u32, sealing: bool, part: u32) -> bool
 }
 
 // The state after so many whole calls of such a part, neither its first nor its last.
+#[inline(always)]
 pub fn go(
     instance: u32,
     sealing: bool,

@@ -3,7 +3,8 @@
 #![tactic(auto)]
 
 pub mod filling;
+pub mod parts;
 pub mod reading;
-pub mod strings;
+pub mod running;
 pub mod tally;
 pub mod verdict;

@@ -1,39 +1,35 @@
 // The case file's numbers, the most significant byte first, and its strings. Where the input has ended, a number is zero.
-ghost use Rattle.std.specs.Prelude.{◌<◌, IfOk};
+ghost use Rattle.std.specs.Prelude.{ℕ, ◌<◌, ◌≤◌, IfOk, take};
+ghost use Rattle.std.specs.Io.KnownBytes.{Consumes};
 
 use console::read_full;
+use isap::Answer;
 use std::io;
 use std::io::Read;
 
-fn wide(b: u8) -> u32
-    ensures { result < 256 }
+// The next N bytes; where the input ends before, zeros stand for the others.
+pub fn bytes<const N: usize, R: Read>(input: &mut R) -> io::Result<[u8; N]>
+    ensures { IfOk result (λ s. (n : ℕ) × (n ≤ N) × Consumes (R.remaining input.old) (R.remaining input.new) (take n s)) }
 {
-    b as u32
+    let mut s = [0u8; N];
+    read_full(input, &mut s)?;
+    Ok(s)
 }
 
-pub fn byte(input: &mut impl Read) -> io::Result<u32>
-    ensures { IfOk result (λ n. n < 256) }
-{
-    let mut b = [0u8; 1];
-    read_full(input, &mut b)?;
-    Ok(wide(b[0]))
+pub fn byte(input: &mut impl Read) -> io::Result<u8> {
+    Ok(u8::from_be_bytes(bytes(input)?))
 }
 
-pub fn pair(input: &mut impl Read) -> io::Result<u32>
-    ensures { IfOk result (λ n. n < 65536) }
-{
-    let high = byte(input)?;
-    Ok(high * 256 + byte(input)?)
+pub fn pair(input: &mut impl Read) -> io::Result<u16> {
+    Ok(u16::from_be_bytes(bytes(input)?))
 }
 
 pub fn four(input: &mut impl Read) -> io::Result<u32> {
-    let high = pair(input)?;
-    Ok(high * 65536 + pair(input)?)
+    Ok(u32::from_be_bytes(bytes(input)?))
 }
 
 pub fn eight(input: &mut impl Read) -> io::Result<u64> {
-    let high = u64::from(four(input)?);
-    Ok(high * 4294967296 + u64::from(four(input)?))
+    Ok(u64::from_be_bytes(bytes(input)?))
 }
 
 // A string that fills the buffer, or what the input still has of it, at the buffer's start.
@@ -44,19 +40,27 @@ pub fn string(input: &mut impl Read, s: &mut [u8]) -> io::Result<()> {
 
 // A string into a part of a buffer, if the buffer has it.
 pub fn string_at(input: &mut impl Read, s: &mut [u8], at: usize, count: usize) -> io::Result<()> {
-    if s.len() < at {
-        return Ok(());
+    match s.get_mut(at..).and_then(|rest| rest.get_mut(..count)) {
+        Some(part) => string(input, part),
+        None => Ok(()),
     }
-    if s.len() - at < count {
-        return Ok(());
-    }
-    let end = at + count;
-    string(input, &mut s[at..end])
 }
 
 // A string with its length before it (two bytes), to the start of a buffer: its length.
-pub fn counted_string(input: &mut impl Read, s: &mut [u8]) -> io::Result<u32> {
-    let count = pair(input)?;
-    string_at(input, s, 0, count as usize)?;
+pub fn counted_string(input: &mut impl Read, s: &mut [u8]) -> io::Result<usize> {
+    let count = usize::from(pair(input)?);
+    string_at(input, s, 0, count)?;
     Ok(count)
+}
+
+// An answer's number (one byte) and rounds (two).
+pub fn answer(input: &mut impl Read) -> io::Result<Answer>
+    ensures { IfOk result (λ a. (a.number < 256) × (a.rounds < 65536)) }
+{
+    let number = byte(input)?;
+    let rounds = pair(input)?;
+    Ok(Answer {
+        number: u32::from(number),
+        rounds: u32::from(rounds),
+    })
 }

@@ -1,114 +1,79 @@
-// Cases counted by kind, and what is printed of them. A kind has a number from 1 on; what it is called, each program says itself.
-use crate::verdict;
-use crate::verdict::Verdict;
-use std::io;
-use std::io::Write;
+// Cases counted by kind.
+ghost use Rattle.std.specs.Prelude.{ℕ, ◌≡◌, ◌↔◌, ◌+◌, ◌%◌, ◌^◌, ◌<◌, ◌≤◌, IsNone, IsSome, IfSome, Some, slice_index};
+ghost use Rattle.case_file.specs.Counting.{raised_at};
+
+use crate::verdict::{Difference, Verdict};
+use std::fmt;
 
 // Of so many cases that differ it is said which they are.
 const NAMED: u32 = 5;
 
-#[derive(Clone, Copy)]
+// What a program counts, with its name.
+pub trait Kind: Copy + fmt::Display {
+    ghost place_is: { Self → ℕ };
+
+    // Its place in a tally.
+    fn place(self) -> usize
+        ensures its_own { result ≡ place_is self }
+        ensures within { result < 12 };
+}
+
+// What stands where a case would begin is no kind's number: the cases have ended.
+#[derive(Clone, Copy, Debug)]
+pub struct NoCase;
+
+#[derive(Clone, Copy, Debug, Default)]
 pub struct Tally {
-    counts: [u32; 12],
-    cases: u32,
-    differences: u32,
+    pub counts: [u32; 12],
+    pub cases: u32,
+    pub differences: u32,
 }
 
-pub fn nothing_yet() -> Tally {
-    let counts = [0u32; 12];
-    Tally {
-        counts,
-        cases: 0,
-        differences: 0,
+impl Tally {
+    // More of a kind that is no case, as slices are.
+    pub fn more<K: Kind>(&mut self, kind: K, by: u32)
+        ensures raises { (K.place_is kind < 12) × (self.new.counts ≡ raised_at (K.place_is kind) by self.old.counts) }
+        ensures cases { (self.new.cases ≡ self.old.cases) × (self.new.differences ≡ self.old.differences) }
+    {
+        let place = kind.place();
+        self.counts[place] = self.counts[place].wrapping_add(by);
+    }
+
+    // One case more. Gives its difference, if that is to be named.
+    pub fn counted<K: Kind>(&mut self, kind: K, verdict: Verdict) -> Option<Difference>
+        ensures raises { (K.place_is kind < 12) × (self.new.counts ≡ raised_at (K.place_is kind) 1 self.old.counts) }
+        ensures cases { self.new.cases ≡ (self.old.cases + 1) % 2 ^ 32 }
+        ensures differs { IsSome verdict → self.new.differences ≡ (self.old.differences + 1) % 2 ^ 32 }
+        ensures agrees { IsNone verdict → self.new.differences ≡ self.old.differences }
+        ensures named { IsSome result ↔ (IsSome verdict × (self.new.differences ≤ NAMED)) }
+        ensures difference { IfSome result (λ d. verdict ≡ Some d) }
+    {
+        self.more(kind, 1);
+        self.cases = self.cases.wrapping_add(1);
+        let difference = verdict?;
+        self.differences = self.differences.wrapping_add(1);
+        (self.differences <= NAMED).then_some(difference)
+    }
+
+    pub fn count<K: Kind>(&self, kind: K) -> u32
+        ensures { (K.place_is kind < 12) × (result ≡ slice_index self.now.counts (K.place_is kind)) }
+    {
+        self.counts[kind.place()]
     }
 }
 
-fn raised(counts: [u32; 12], kind: u32, by: u32) -> [u32; 12] {
-    let mut c = counts;
-    let i = kind as usize;
-    if i < 12 {
-        c[i] = std::num::wrapping_add_u32(c[i], by);
+// What is printed in the end: how many there were of each kind, and how many cases differ.
+#[derive(Clone, Copy)]
+pub struct Report<'a, K> {
+    pub tally: Tally,
+    pub kinds: &'a [K],
+}
+
+impl<K: Kind> fmt::Display for Report<'_, K> {
+    fn fmt<W: fmt::Write>(&self, f: &mut fmt::Formatter<W>) -> fmt::Result {
+        for kind in self.kinds {
+            writeln!(f, "{kind}: {}", self.tally.count(*kind))?;
+        }
+        writeln!(f, "differences: {}", self.tally.differences)
     }
-    c
-}
-
-// More of a kind that is no case, as slices are.
-pub fn more(t: Tally, kind: u32, by: u32) -> Tally {
-    let before = t.counts;
-    let counts = raised(before, kind, by);
-    Tally {
-        counts,
-        cases: t.cases,
-        differences: t.differences,
-    }
-}
-
-// One case more.
-pub fn counted(t: Tally, kind: u32, v: Verdict) -> Tally {
-    let before = t.counts;
-    let counts = raised(before, kind, 1);
-    Tally {
-        counts,
-        cases: std::num::wrapping_add_u32(t.cases, 1),
-        differences: std::num::wrapping_add_u32(t.differences, verdict::differs(v) as u32),
-    }
-}
-
-// Whether the case that was counted last is to be named: it differs, and is among the first that do.
-pub fn is_named(t: Tally, v: Verdict) -> bool {
-    verdict::differs(v) && t.differences <= NAMED
-}
-
-pub fn say(to: &mut impl Write, words: &[u8]) -> io::Result<()> {
-    to.write_all(words)
-}
-
-fn say_number(to: &mut impl Write, n: u32) -> io::Result<()> {
-    write!(to, "{n}")
-}
-
-fn say_what(to: &mut impl Write, what: u32) -> io::Result<()> {
-    match what {
-        verdict::NUMBER => say(to, b"number"),
-        verdict::ROUNDS => say(to, b"rounds"),
-        verdict::OUTPUT => say(to, b"output"),
-        verdict::TAG => say(to, b"tag"),
-        verdict::RECORD => say(to, b"record"),
-        verdict::COUNTER => say(to, b"counter"),
-        verdict::READING => say(to, b"reading"),
-        verdict::FIELDS => say(to, b"fields"),
-        _ => say(to, b"ciphertext"),
-    }
-}
-
-// Case 17 (whole calls refused), call 1: rounds different. The name of the kind is said between these two.
-pub fn say_case(to: &mut impl Write, t: Tally) -> io::Result<()> {
-    say(to, b"case ")?;
-    say_number(to, t.cases)?;
-    say(to, b" (")
-}
-
-pub fn say_difference(to: &mut impl Write, v: Verdict) -> io::Result<()> {
-    say(to, b"), call ")?;
-    say_number(to, v.call)?;
-    say(to, b": ")?;
-    say_what(to, v.what)?;
-    say(to, b" different\n")
-}
-
-// What stands behind the name of a kind.
-pub fn say_count(to: &mut impl Write, t: Tally, kind: u32) -> io::Result<()> {
-    say(to, b": ")?;
-    let counts = t.counts;
-    let i = kind as usize;
-    if i < 12 {
-        say_number(to, counts[i])?;
-    }
-    say(to, b"\n")
-}
-
-pub fn say_differences(to: &mut impl Write, t: Tally) -> io::Result<()> {
-    say(to, b"differences: ")?;
-    say_number(to, t.differences)?;
-    say(to, b"\n")
 }

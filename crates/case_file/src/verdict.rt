@@ -1,72 +1,79 @@
 // What a case shows: the first thing that differs, and in which of its calls.
-use crate::reading;
-use std::io;
-use std::io::Read;
+ghost use Rattle.std.specs.Prelude.{◌≡◌, ◌↔◌, IsTrue, IsNone, IfSome};
 
-#[derive(Clone, Copy)]
-pub struct Verdict {
-    pub what: u32,
+use isap::Answer;
+use std::fmt;
+
+// What can differ.
+#[derive(Clone, Copy, Debug, PartialEq, Eq)]
+pub enum What {
+    Number,
+    Rounds,
+    Output,
+    Tag,
+    Record,
+    Counter,
+    Reading,
+    Fields,
+    Ciphertext,
+}
+
+impl fmt::Display for What {
+    ghost use Rattle.std.specs.Prelude.{Some};
+    ghost use Rattle.case_file.specs.Shown.{name_of};
+
+    ghost output = { λ what. Some (name_of what) };
+
+    fn fmt<W: fmt::Write>(&self, f: &mut fmt::Formatter<W>) -> fmt::Result {
+        match self {
+            What::Number => f.write_str("number"),
+            What::Rounds => f.write_str("rounds"),
+            What::Output => f.write_str("output"),
+            What::Tag => f.write_str("tag"),
+            What::Record => f.write_str("record"),
+            What::Counter => f.write_str("counter"),
+            What::Reading => f.write_str("reading"),
+            What::Fields => f.write_str("fields"),
+            What::Ciphertext => f.write_str("ciphertext"),
+        }
+    }
+}
+
+#[derive(Clone, Copy, Debug, PartialEq, Eq)]
+pub struct Difference {
+    pub what: What,
     // counted from 1; 0 is a beginning
     pub call: u32,
 }
 
-const NOTHING: u32 = 0;
+impl fmt::Display for Difference {
+    ghost use Rattle.std.specs.Prelude.{Some};
+    ghost use Rattle.case_file.specs.Shown.{difference_of};
 
-pub const NUMBER: u32 = 1;
+    ghost output = { λ difference. Some (difference_of difference) };
 
-pub const ROUNDS: u32 = 2;
-
-pub const OUTPUT: u32 = 3;
-
-pub const TAG: u32 = 4;
-
-pub const RECORD: u32 = 5;
-
-pub const COUNTER: u32 = 6;
-
-pub const READING: u32 = 7;
-
-pub const FIELDS: u32 = 8;
-
-pub const CIPHERTEXT: u32 = 9;
-
-pub fn no_difference() -> Verdict {
-    Verdict {
-        what: NOTHING,
-        call: 0,
+    fn fmt<W: fmt::Write>(&self, f: &mut fmt::Formatter<W>) -> fmt::Result {
+        write!(f, "call {}: {} different", self.call, self.what)
     }
 }
 
-pub fn differs(v: Verdict) -> bool {
-    v.what != NOTHING
-}
+pub type Verdict = Option<Difference>;
 
-// The verdict so far, or one on the call that comes next.
-pub fn then(v: Verdict, same: bool, what: u32, call: u32) -> Verdict {
-    if differs(v) {
-        return v;
-    }
+// A difference in this, unless what came is the same as what must come.
+pub fn unless(same: bool, what: What, call: u32) -> Verdict
+    ensures none { IsNone result ↔ IsTrue same }
+    ensures named { IfSome result (λ d. (d.what ≡ what) × (d.call ≡ call)) }
+{
     if same {
-        return v;
+        return None;
     }
-    Verdict { what, call }
+    Some(Difference { what, call })
 }
 
-// An answer's number and rounds.
-#[derive(Clone, Copy)]
-pub struct Said {
-    pub number: u32,
-    pub rounds: u32,
-}
-
-// As a file has it: the number (one byte), the rounds (two).
-pub fn read_said(input: &mut impl Read) -> io::Result<Said> {
-    let number = reading::byte(input)?;
-    let rounds = reading::pair(input)?;
-    Ok(Said { number, rounds })
-}
-
-pub fn then_said(v: Verdict, said: Said, expected: Said, call: u32) -> Verdict {
-    let numbered = then(v, said.number == expected.number, NUMBER, call);
-    then(numbered, said.rounds == expected.rounds, ROUNDS, call)
+// The number of an answer is compared first, then its rounds.
+pub fn answered(answer: Answer, expected: Answer, call: u32) -> Verdict
+    ensures { IsNone result ↔ (answer ≡ expected) }
+{
+    let number = unless(answer.number == expected.number, What::Number, call);
+    number.or(unless(answer.rounds == expected.rounds, What::Rounds, call))
 }

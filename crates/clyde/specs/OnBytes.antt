@@ -1,12 +1,14 @@
 -- Clyde-128's rounds on 16 bytes, and the laws that callers go by: rows become bytes and come back unchanged, so a run of rounds on rows is
 -- the run on the bytes that they stand for.
 -- Assumes nothing.
-use Rattle.std.specs.Prelude.{Bool, get_or}
+use Rattle.std.specs.Prelude.{Bool, true, false, get_or}
 use mathlib.Core.List.{List, [], ◌∷◌}
 use Prim.Native.Nat.{ℕ, ◌/◌, ◌%◌}
 use Rattle.bits.specs.Digit.{bit}
 use Rattle.bits.specs.Pick.{pick}
 use Rattle.clyde.specs.declared.Rows.{Rows}
+use Rattle.clyde.specs.declared.Direction.{Direction}
+use Rattle.clyde.specs.declared.Direction.TheVariants.{Forward, Back}
 use Rattle.clyde.specs.Clyde.{rows_of, bytes_of, clyde_round, clyde_round_inverse}
 
 -- round i of Clyde-128, with the tweakey additions that go with it
@@ -23,6 +25,11 @@ round_by back = pick back clyde_round_inverse clyde_round
 
 abbrev pub turn_by : (back : Bool) → (key tweak : List ℕ) → ℕ → List ℕ → List ℕ
 turn_by back = pick back clyde_turn_back clyde_turn
+
+-- whether a direction is the inverse's
+abbrev pub is_back : Direction → Bool
+is_back Forward = false
+is_back Back = true
 
 -- ---- x[i, j] = B[32 i + j]
 

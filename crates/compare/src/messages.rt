@@ -1,215 +1,175 @@
 // Messages: sealed (call 1), opened again (2), and opened with one thing damaged (3).
-use crate::room::{Room, filled};
-use crate::shown::as_shown;
-use crate::whole_calls;
-use crate::whole_calls::Lent;
-use case_file::strings::{damage, first, same};
-use case_file::verdict::{OUTPUT, Said, TAG, Verdict};
-use case_file::{reading, verdict};
+use crate::room::Room;
+use crate::shown::is_shown;
+use case_file::parts::{damage, first, within};
+use case_file::reading;
+use case_file::verdict::{Verdict, What, answered, unless};
+use isap::Answer;
 use std::io;
 use std::io::Read;
 
-// What is damaged, as the file numbers it.
-const KEY: u32 = 0;
-
-const NONCE: u32 = 1;
-
-const ASSOC: u32 = 2;
-
-const CIPHERTEXT: u32 = 3;
-
-const TAG_BITS: u32 = 4;
-
-const INSTANCE: u32 = 5;
-
-const SHORTER: u32 = 6;
-
-#[derive(Clone, Copy)]
-struct Harm {
-    what: u32,
-    at: u32,
-    bits: u8,
-    // of the opening that it ends
-    rounds: u32,
+#[derive(Clone, Copy, Debug, PartialEq, Eq)]
+enum Target {
+    Key,
+    Nonce,
+    Assoc,
+    Ciphertext,
+    Tag,
+    Instance,
+    // the ciphertext is cut
+    Length,
+    Nothing,
 }
 
-// What the calls of a message are lent, and its tag.
+// As the file numbers it.
+impl From<u8> for Target {
+    fn from(number: u8) -> Self {
+        match number {
+            0 => Target::Key,
+            1 => Target::Nonce,
+            2 => Target::Assoc,
+            3 => Target::Ciphertext,
+            4 => Target::Tag,
+            5 => Target::Instance,
+            6 => Target::Length,
+            _ => Target::Nothing,
+        }
+    }
+}
+
+// What is damaged: bits of a byte, or the number that stands in place of instance or length.
+#[derive(Clone, Copy)]
+struct Harm {
+    target: Target,
+    at: u16,
+    bits: u8,
+    // of the opening that it ends
+    answer: Answer,
+}
+
+// An answer with this number, whose rounds the file has.
+fn expected(input: &mut impl Read, number: u32) -> io::Result<Answer> {
+    let rounds = u32::from(reading::pair(input)?);
+    Ok(Answer { number, rounds })
+}
+
+impl Harm {
+    fn read(input: &mut impl Read) -> io::Result<Self> {
+        Ok(Harm {
+            target: Target::from(reading::byte(input)?),
+            at: reading::pair(input)?,
+            bits: reading::byte(input)?,
+            answer: expected(input, 8)?,
+        })
+    }
+}
+
+// What the calls of a message are lent, with the lengths of associated data and text, and its tag.
 #[derive(Clone, Copy)]
 struct Message {
-    lent: Lent,
+    instance: u32,
+    assoc: usize,
+    text: usize,
     room: Room,
     tag: [u8; 16],
 }
 
-fn sixteen_bytes(input: &mut impl Read) -> io::Result<[u8; 16]> {
-    let mut s = [0u8; 16];
-    reading::string(input, &mut s)?;
-    Ok(s)
-}
+impl Message {
+    fn seal(self, out: &mut [u8], tag: &mut [u8]) -> Answer {
+        let room = &self.room;
+        let n = within(out, self.text);
+        isap::seal(
+            self.instance,
+            &room.key[..16],
+            &room.nonce[..16],
+            first(&room.assoc, self.assoc),
+            first(&room.text, self.text),
+            &mut out[..n],
+            tag,
+        )
+    }
 
-fn byte_of(n: u32) -> u8 {
-    (n % 256) as u8
-}
+    fn open(self, out: &mut [u8]) -> Answer {
+        let room = &self.room;
+        let n = within(out, self.text);
+        isap::open(
+            self.instance,
+            &room.key[..16],
+            &room.nonce[..16],
+            first(&room.assoc, self.assoc),
+            first(&room.text, self.text),
+            &self.tag,
+            &mut out[..n],
+        )
+    }
 
-fn read_harm(input: &mut impl Read) -> io::Result<Harm> {
-    let what = reading::byte(input)?;
-    let at = reading::pair(input)?;
-    let bits = byte_of(reading::byte(input)?);
-    let rounds = reading::pair(input)?;
-    Ok(Harm {
-        what,
-        at,
-        bits,
-        rounds,
-    })
-}
-
-// Key, nonce and tag of 16 bytes, and an output as long as the text.
-fn lent(instance: u32, assoc: u32, text: u32) -> Lent {
-    Lent {
-        instance,
-        key: 16,
-        nonce: 16,
-        assoc,
-        text,
-        out: text,
-        tag: 16,
+    fn damage(&mut self, harm: Harm) {
+        let at = usize::from(harm.at);
+        match harm.target {
+            Target::Key => damage(&mut self.room.key, at, harm.bits),
+            Target::Nonce => damage(&mut self.room.nonce, at, harm.bits),
+            Target::Assoc => damage(&mut self.room.assoc, at, harm.bits),
+            Target::Ciphertext => damage(&mut self.room.text, at, harm.bits),
+            Target::Tag => damage(&mut self.tag, at, harm.bits),
+            Target::Instance => self.instance = u32::from(harm.at),
+            Target::Length => self.text = at,
+            Target::Nothing => {}
+        }
     }
 }
 
-fn sealed(input: &mut impl Read, m: Message, out: &mut [u8], rounds: u32) -> io::Result<Verdict> {
-    let lent = m.lent;
-    let room = m.room;
-    let tag = m.tag;
-    let text = room.text;
-    let mut made = [170u8; 16];
-    let said = whole_calls::seal(lent, room, &text, out, &mut made);
-    let expected = Said { number: 0, rounds };
-    let answered = verdict::then_said(verdict::no_difference(), said, expected, 1);
-    let tagged = verdict::then(answered, same(&made, &tag), TAG, 1);
-    Ok(verdict::then(
-        tagged,
-        as_shown(input, first(&out[..], lent.text))?,
-        OUTPUT,
-        1,
-    ))
-}
-
-// The message as it is received: the ciphertext is its text.
-fn received(m: Message, ciphertext: [u8; 4200]) -> Message {
-    let lent = m.lent;
-    let tag = m.tag;
-    let mut room = m.room;
-    room.text = ciphertext;
-    Message { lent, room, tag }
-}
-
-fn opened(before: Verdict, m: Message, text: [u8; 4200], rounds: u32) -> Verdict {
-    let lent = m.lent;
-    let room = m.room;
-    let tag = m.tag;
-    let cipher = room.text;
-    let mut out = room.out;
-    let said = whole_calls::open(lent, room, &cipher, &mut out, &tag);
-    let expected = Said { number: 0, rounds };
-    let answered = verdict::then_said(before, said, expected, 2);
-    verdict::then(
-        answered,
-        same(first(&out, lent.text), first(&text, lent.text)),
-        OUTPUT,
-        2,
+fn sealed(
+    input: &mut impl Read,
+    message: Message,
+    out: &mut [u8],
+    expected: Answer,
+) -> io::Result<Verdict> {
+    let mut tag = [170u8; 16];
+    let answer = message.seal(out, &mut tag);
+    let as_shown = is_shown(input, first(out, message.text))?;
+    Ok(
+        answered(answer, expected, 1)
+            .or(unless(tag == message.tag, What::Tag, 1))
+            .or(unless(as_shown, What::Output, 1)),
     )
 }
 
-fn damaged_room(room: Room, d: Harm) -> Room {
-    let mut r = room;
-    if d.what == KEY {
-        let mut key = r.key;
-        damage(&mut key, d.at, d.bits);
-        r.key = key;
-        return r;
-    }
-    if d.what == NONCE {
-        let mut nonce = r.nonce;
-        damage(&mut nonce, d.at, d.bits);
-        r.nonce = nonce;
-        return r;
-    }
-    if d.what == ASSOC {
-        let mut assoc = r.assoc;
-        damage(&mut assoc, d.at, d.bits);
-        r.assoc = assoc;
-        return r;
-    }
-    if d.what == CIPHERTEXT {
-        let mut text = r.text;
-        damage(&mut text, d.at, d.bits);
-        r.text = text;
-        return r;
-    }
-    r
+fn opened(message: Message, text: &[u8], expected: Answer) -> Verdict {
+    let mut out = message.room.out;
+    let answer = message.open(&mut out);
+    let same = first(&out, message.text) == first(text, message.text);
+    answered(answer, expected, 2).or(unless(same, What::Output, 2))
 }
 
-fn damaged_lent(l: Lent, d: Harm) -> Lent {
-    if d.what == INSTANCE {
-        return lent(d.at, l.assoc, l.text);
-    }
-    if d.what == SHORTER {
-        return lent(l.instance, l.assoc, d.at);
-    }
-    l
-}
-
-fn damaged_tag(received: [u8; 16], d: Harm) -> [u8; 16] {
-    let mut tag = received;
-    if d.what == TAG_BITS {
-        damage(&mut tag, d.at, d.bits);
-    }
-    tag
-}
-
-fn damaged(m: Message, d: Harm) -> Message {
-    let l = m.lent;
-    let r = m.room;
-    let t = m.tag;
-    Message {
-        lent: damaged_lent(l, d),
-        room: damaged_room(r, d),
-        tag: damaged_tag(t, d),
-    }
-}
-
-fn opened_damaged(before: Verdict, m: Message, rounds: u32) -> Verdict {
-    let lent = m.lent;
-    let room = m.room;
-    let tag = m.tag;
-    let cipher = room.text;
-    let kept = room.out;
-    let mut out = room.out;
-    let said = whole_calls::open(lent, room, &cipher, &mut out, &tag);
-    let expected = Said { number: 8, rounds };
-    let answered = verdict::then_said(before, said, expected, 3);
-    verdict::then(answered, same(&out, &kept), OUTPUT, 3)
+fn not_opened(message: Message, expected: Answer) -> Verdict {
+    let mut out = message.room.out;
+    let answer = message.open(&mut out);
+    let kept = out == message.room.out;
+    answered(answer, expected, 3).or(unless(kept, What::Output, 3))
 }
 
 pub fn case(input: &mut impl Read) -> io::Result<Verdict> {
-    let instance = reading::byte(input)?;
-    let assoc = reading::pair(input)?;
-    let text = reading::pair(input)?;
-    let room = filled(reading::eight(input)?);
-    let sealing = reading::pair(input)?;
-    let opening = reading::pair(input)?;
-    let d = read_harm(input)?;
-    let tag = sixteen_bytes(input)?;
-    let m = Message {
-        lent: lent(instance, assoc, text),
+    let instance = u32::from(reading::byte(input)?);
+    let assoc = usize::from(reading::pair(input)?);
+    let text = usize::from(reading::pair(input)?);
+    let room = Room::filled(reading::eight(input)?);
+    let sealing = expected(input, 0)?;
+    let opening = expected(input, 0)?;
+    let harm = Harm::read(input)?;
+    let tag = reading::bytes(input)?;
+    let mut message = Message {
+        instance,
+        assoc,
+        text,
         room,
         tag,
     };
-    let plain = room.text;
-    let mut out = room.out;
-    let first_call = sealed(input, m, &mut out, sealing)?;
-    let r = received(m, out);
-    let second_call = opened(first_call, r, plain, opening);
-    Ok(opened_damaged(second_call, damaged(r, d), d.rounds))
+    let mut ciphertext = room.out;
+    let first_call = sealed(input, message, &mut ciphertext, sealing)?;
+    // as it is received, its text is the ciphertext
+    message.room.text = ciphertext;
+    let second_call = opened(message, &room.text, opening);
+    message.damage(harm);
+    let third_call = not_opened(message, harm.answer);
+    Ok(first_call.or(second_call).or(third_call))
 }

@@ -14,6 +14,7 @@ pub fn read_full<R: Read>(input: &mut R, buf: &mut [u8]) -> io::Result<usize>
     ensures bytes { IfOk result (λ n. Consumes (R.remaining input.old) (R.remaining input.new) (take n buf.new)) }
     ensures short { IfOk result (λ n. n < length buf.new → IsAtEnd (R.remaining input.new)) }
 {
+    // Counted here: the library's `read_exact` takes an input that ends before for an error, and does not say how far it came.
     let mut done = 0;
     while done < buf.len() {
         let n = input.read(&mut buf[done..])?;

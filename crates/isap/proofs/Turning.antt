@@ -52,9 +52,6 @@ module _ (j : Job) (assoc text out : List ℕ) (count : ℕ) (h : Ready scheme_o
   pub done_fits : j.done + count ≤ most_rounds
   done_fits = omega (arith, up_to_lem scheme_of lawful-scheme j assoc text out count h, total_of_lem j h.assoc_limit h.text_limit)
 
-  pub both-fit : (front back : ℕ) → Timed scheme_of j front back → front + back ≤ most_rounds
-  both-fit front back t = omega (arith, t.front_is, t.back_is, total_of_lem j h.assoc_limit h.text_limit)
-
   module _ (rounds : ℕ) (r : rounds ≡ rounds_at scheme_of j) where
     pub within : j.place.round + count ≤ rounds
     within = omega (arith, h.fits, r)

@@ -1,6 +1,6 @@
 -- What a beginning gives: the refusals 1 to 5 and 7 in this order, else a record before its first round.
 -- Assumes nothing.
-use Rattle.std.specs.Prelude.{List, ℕ, eqb, leb, length, replicate}
+use Rattle.std.specs.Prelude.{List, ℕ, Result, Ok, Err, eqb, leb, length, replicate}
 use Rattle.bits.specs.Pick.{pick}
 use Rattle.stopping.specs.Places.{place_of}
 use Rattle.scheme.specs.Scheme.{Scheme, all_shapes}
@@ -9,7 +9,9 @@ use Rattle.instances.specs.Limits.{most_assoc, most_text}
 use Rattle.plan.specs.Planned.{placed}
 use Rattle.isap.specs.declared.Job.{Job}
 use Rattle.isap.specs.declared.Begun.{Begun}
+use Rattle.isap.specs.declared.refusals.Refusal.{Refusal}
 use Rattle.isap.specs.Records.{sealing_of}
+use Rattle.isap.specs.Refusals.{number_of_refusal}
 
 -- ---- the refusals of document 01, each 0 if it does not apply
 
@@ -43,6 +45,11 @@ no_job =
 
 unfoldable pub begun_or : (refusal : ℕ) → Job → Begun
 begun_or refusal j = pick (eqb refusal 0) (record { number = 100; rounds = 0; job = j }) (record { number = refusal; rounds = 0; job = no_job })
+
+-- by the record that a beginning has made, or by what refused it
+abbrev pub begun_by : Result Job Refusal → Begun
+begun_by (Ok j) = record { number = 100; rounds = 0; job = j }
+begun_by (Err e) = record { number = number_of_refusal e; rounds = 0; job = no_job }
 
 -- ---- by the schemes of the instances
 

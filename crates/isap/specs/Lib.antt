@@ -1,5 +1,6 @@
 pub mod Records
 pub mod Slices
+pub mod Refusals
 pub mod Beginnings
 pub mod Whole
 pub mod Statements

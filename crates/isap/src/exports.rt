@@ -10,7 +10,7 @@ use crate::whole;
 pub fn pack(number: u32, rounds: u32) -> u64
     ensures { result ≡ packed number rounds }
 {
-    number as u64 + 4294967296 * rounds as u64
+    u64::from(number) + (u64::from(rounds) << 32)
 }
 
 pub fn isap_seal(

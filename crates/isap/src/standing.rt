@@ -1,85 +1,89 @@
 // Whether a record can stand, from its instance, direction, lengths and rounds done.
-ghost use Rattle.std.specs.Prelude.{◌≡◌, false, ◌≤◌, eqb};
+ghost use Rattle.std.specs.Prelude.{◌≡◌, false, ◌+◌, ◌≤◌, eqb};
 ghost use Rattle.bits.specs.Pick.{pick};
 ghost use Rattle.instances.specs.Schemes.{scheme_of};
 ghost use Rattle.instances.specs.Limits.{most_assoc, most_text};
-ghost use Rattle.isap.specs.Slices.{same_place, place_right, limits_right, stands_of};
+ghost use Rattle.isap.specs.Records.{sealing_of};
+ghost use Rattle.isap.specs.Slices.{place_right, limits_right, stands_of};
 
 use crate::Job;
-use plan::Place;
+use crate::counts::Counts;
+use plan::Outline;
 
-// An ending that the rounds done allow, with `front` rounds up to the decision and `total` in all.
-fn ending_right(sealing: bool, done: u32, ending: u32, front: u32, total: u32) -> bool
-    ensures { result ≡ pick (eqb ending 2) (pick sealing false (eqb done front)) (eqb ending (pick (eqb done total) 1 0)) }
+// A record's direction.
+pub(crate) const SEALING: u32 = 1;
+
+pub(crate) const OPENING: u32 = 2;
+
+// An ending that the rounds done allow.
+fn ending_right(sealing: bool, done: u32, ending: u32, counts: Counts) -> bool
+    ensures { result ≡ pick (eqb ending 2) (pick sealing false (eqb done counts.front)) (eqb ending (pick (eqb done (counts.front + counts.back)) 1 0)) }
 {
     if ending == 2 {
-        if sealing {
-            return false;
-        }
-        return done == front;
+        return !sealing && done == counts.front;
     }
-    if done == total {
-        return ending == 1;
-    }
-    ending == 0
-}
-
-fn same_place(v: Place, w: Place) -> bool
-    ensures { result ≡ same_place v w }
-{
-    if v.part != w.part {
-        return false;
-    }
-    if v.call != w.call {
-        return false;
-    }
-    v.round == w.round
+    ending == u32::from(done == counts.total())
 }
 
 // The place is walked anew here, and only here: a slice moves it on.
-fn place_right(job: Job, sealing: bool) -> bool
-    requires { (job.assoc ≤ most_assoc) × (job.text ≤ most_text) × (sealing ≡ eqb job.direction 1) }
+#[inline(always)]
+fn place_right(job: Job) -> bool
+    requires { (job.assoc ≤ most_assoc) × (job.text ≤ most_text) }
     ensures { result ≡ place_right scheme_of job }
 {
-    let w = plan::place_after(job.instance, sealing, job.assoc, job.text, job.done);
-    let v = job.place;
-    same_place(v, w)
+    let walked = job.outline().place_after(job.done);
+    job.place == walked
 }
 
 // The instance, the direction and the lengths are within their limits.
+#[tactic(auto, unfolding(crate::specs::Slices::limits_right, bits::specs::Every::passes))]
 fn limits_right(instance: u32, direction: u32, a: u32, m: u32) -> bool
     ensures { result ≡ limits_right instance direction a m }
 {
-    if !plan::is_known(instance) {
-        return false;
-    }
-    if direction < 1 {
-        return false;
-    }
-    if 2 < direction {
-        return false;
-    }
-    if plan::MOST_ASSOC < a {
-        return false;
-    }
-    m <= plan::MOST_TEXT
+    plan::is_known(instance)
+        && matches!(direction, SEALING..=OPENING)
+        && a <= plan::MOST_ASSOC
+        && m <= plan::MOST_TEXT
 }
 
-pub fn stands(job: Job) -> bool
-    ensures { result ≡ stands_of scheme_of job }
-{
-    if !limits_right(job.instance, job.direction, job.assoc, job.text) {
-        return false;
+impl Job {
+    // The direction, of two.
+    #[inline(always)]
+    pub(crate) fn sealing(self) -> bool
+        ensures { result ≡ sealing_of self.direction }
+    {
+        self.direction == SEALING
     }
-    let sealing = job.direction == 1;
-    let back = plan::back_rounds(job.instance, sealing, job.assoc, job.text);
-    let front = plan::front_rounds(job.instance, sealing, job.assoc, job.text);
-    let total = front + back;
-    if total < job.done {
-        return false;
+
+    // What is known of a job before its bytes are. The limits are clauses here and where it is asked for: a record is plain data, that of a job
+    // that stands too.
+    #[inline(always)]
+    pub(crate) fn outline(self) -> Outline
+        requires { (self.assoc ≤ most_assoc) × (self.text ≤ most_text) }
+        ensures instance { result.instance ≡ self.instance }
+        ensures sealing { result.sealing ≡ sealing_of self.direction }
+        ensures assoc { result.assoc ≡ self.assoc }
+        ensures text { result.text ≡ self.text }
+    {
+        Outline {
+            instance: self.instance,
+            sealing: self.sealing(),
+            assoc: self.assoc,
+            text: self.text,
+        }
     }
-    if !ending_right(sealing, job.done, job.ending, front, total) {
-        return false;
+
+    #[inline(always)]
+    pub(crate) fn stands(self) -> bool
+        ensures { result ≡ stands_of scheme_of self }
+    {
+        if !limits_right(self.instance, self.direction, self.assoc, self.text) {
+            return false;
+        }
+        let counts = Counts::of(self);
+        if counts.total() < self.done {
+            return false;
+        }
+        ending_right(self.sealing(), self.done, self.ending, counts) && place_right(self)
     }
-    place_right(job, sealing)
 }

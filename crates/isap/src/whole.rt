@@ -1,28 +1,32 @@
 // Whole calls: a beginning and one slice, with a budget that ends every job.
 ghost use Rattle.std.specs.Prelude.{◌≡◌, length};
 ghost use Rattle.instances.specs.Schemes.{scheme_of};
+ghost use Rattle.isap.specs.Refusals.{number_in, number_of_refusal};
 ghost use Rattle.isap.specs.Whole.{out_refusal, whole_refusal};
 ghost use Rattle.isap.specs.Statements.{Seals, Opens};
 
 use crate::Answer;
-use crate::beginnings::{begin_open, begin_seal, limits_refusal, or_else, tag_refusal};
+use crate::beginnings::{begin_open, begin_seal, check_limits, check_tag};
+use crate::refusals::Refusal;
 use crate::slices::slice;
 
 // The largest budget, which ends every job.
-const LARGEST: u32 = 4294967295;
+const LARGEST: u32 = u32::MAX;
 
-// 6, or 0.
-fn out_refusal(out: usize, m: usize) -> u32
-    ensures { result ≡ out_refusal out m }
+// 6.
+#[tactic(auto, unfolding(crate::specs::Whole::out_refusal))]
+fn check_out(out: usize, m: usize) -> Result<(), Refusal>
+    ensures { number_in result ≡ out_refusal out m }
 {
     if out != m {
-        return 6;
+        return Err(Refusal::OutputLength);
     }
-    0
+    Ok(())
 }
 
-// 1 to 7 in this order, from the instance and the lengths; 0 if none applies.
-fn whole_refusal(
+// 1 to 7 in this order, from the instance and the lengths.
+#[tactic(auto, using(crate::proofs::Beginning::first_refusal, crate::proofs::Beginning::next_refusal), unfolding(crate::specs::Whole::whole_refusal))]
+fn check_whole(
     instance: u32,
     key: usize,
     nonce: usize,
@@ -30,23 +34,28 @@ fn whole_refusal(
     m: usize,
     out: usize,
     tag: usize,
-) -> u32
-    ensures { result ≡ whole_refusal scheme_of instance key nonce a m out tag }
+) -> Result<(), Refusal>
+    ensures { number_in result ≡ whole_refusal scheme_of instance key nonce a m out tag }
 {
-    let limits = limits_refusal(instance, key, nonce, a, m);
-    let room = or_else(out_refusal(out, m), tag_refusal(tag));
-    or_else(limits, room)
+    check_limits(instance, key, nonce, a, m)?;
+    check_out(out, m)?;
+    check_tag(tag)
+}
+
+fn refused(refusal: Refusal) -> Answer
+    ensures { result ≡ record { number = number_of_refusal refusal; rounds = 0 } }
+{
+    Answer {
+        number: refusal.number(),
+        rounds: 0,
+    }
 }
 
 fn put_tag(tag: &mut [u8], made: [u8; 16])
     requires { length tag.old ≡ 16 }
     ensures { tag.new ≡ made }
 {
-    let mut i = 0;
-    while i < 16 {
-        tag[i] = made[i];
-        i += 1;
-    }
+    tag.copy_from_slice(&made);
 }
 
 // Seals `text`: the ciphertext goes to `out`, the tag to `tag`.
@@ -63,23 +72,14 @@ pub fn seal(
 {
     let a = assoc.len();
     let m = text.len();
-    let refused = whole_refusal(instance, key.len(), nonce.len(), a, m, out.len(), tag.len());
-    if refused != 0 {
-        return Answer {
-            number: refused,
-            rounds: 0,
-        };
+    let checked = check_whole(instance, key.len(), nonce.len(), a, m, out.len(), tag.len());
+    if let Err(refusal) = checked {
+        return refused(refusal);
     }
     let begun = begin_seal(instance, key, nonce, a as u32, m as u32);
-    let job = begun.job;
-    let ended = slice(job, assoc, text, out, LARGEST);
-    let last = ended.job;
-    let made = last.tag;
-    put_tag(tag, made);
-    Answer {
-        number: ended.number,
-        rounds: ended.rounds,
-    }
+    let ended = slice(begun.job, assoc, text, out, LARGEST);
+    put_tag(tag, ended.job.tag);
+    ended.into()
 }
 
 // Opens the ciphertext `text`: the plaintext goes to `out` if `tag` is right, and nothing else does.
@@ -96,18 +96,10 @@ pub fn open(
 {
     let a = assoc.len();
     let m = text.len();
-    let refused = whole_refusal(instance, key.len(), nonce.len(), a, m, out.len(), tag.len());
-    if refused != 0 {
-        return Answer {
-            number: refused,
-            rounds: 0,
-        };
+    let checked = check_whole(instance, key.len(), nonce.len(), a, m, out.len(), tag.len());
+    if let Err(refusal) = checked {
+        return refused(refusal);
     }
     let begun = begin_open(instance, key, nonce, tag, a as u32, m as u32);
-    let job = begun.job;
-    let ended = slice(job, assoc, text, out, LARGEST);
-    Answer {
-        number: ended.number,
-        rounds: ended.rounds,
-    }
+    slice(begun.job, assoc, text, out, LARGEST).into()
 }

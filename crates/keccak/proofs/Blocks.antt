@@ -6,14 +6,14 @@ use Prim.Native.Nat.{ℕ, ◌+◌, ◌/◌, ◌%◌, ◌≤◌, ◌<◌}
 use native.Mathlib.Nat.{mod-eq_of_lt}
 use native.Mathlib.Omega.{arith}
 use lib.Dec.{lit≤}
-use lib.ListN.{length, get_or, take, drop}
+use lib.ListN.{length, get_or, set, take, drop}
 use lib.Seq.{take_at, take_all}
 use lib.Bits.{bit_xor, xor_zero_r}
 use Rattle.bits.specs.Bytes.{Bytes}
 use Rattle.bits.specs.LittleEndian.{le_bytes, le_bytes-xor}
 use Rattle.bits.specs.Part.{parts, parts-take}
 use Rattle.bits.specs.Xors.{xors, length-xors}
-use Rattle.keccak.specs.Lanes.{at, lane_at, plane_bytes, bytes_of, five_xored, four_xored}
+use Rattle.keccak.specs.Lanes.{at, lane, lane_at, plane_bytes, bytes_of, lanes_xored}
 use Rattle.keccak.proofs.ByteLaws.{length-bytes_of, lane-back}
 
 -- the state with two other planes in front
@@ -44,7 +44,7 @@ module _ (t : List ℕ) (l : length t ≡ 18) (h : Bytes t) where
       (λ j. b0 j ++ b1 j ++ b2 j ++ b3 j ++ b4 j ++ b5 j ++ b6 j ++ b7 j ++ b8 j) ∙ parts-take 9 2 t ∙ take_all 18 t (omega arith)
 
   pub block_in_lem : (a : List (List ℕ))
-      → bytes_of (fronted (five_xored (get_or a 0 []) t 0) (four_xored (get_or a 1 []) t 10) a) ≡ xors (bytes_of a) t ++ drop 18 (bytes_of a)
+      → bytes_of (fronted (lanes_xored 5 (get_or a 0 []) t 0) (lanes_xored 4 (get_or a 1 []) t 10) a) ≡ xors (bytes_of a) t ++ drop 18 (bytes_of a)
   unfolding bytes_of plane_bytes le_bytes xors
   block_in_lem a =
       let p = get_or a 0 [] in
@@ -81,3 +81,11 @@ byte_in a v h =
     let none : v / 256 % 256 ≡ 0 = omega arith in
     let high : bit_xor (x / 256 % 256) (v / 256 % 256) ≡ x / 256 % 256 = ap (bit_xor (x / 256 % 256)) none ∙ xor_zero_r (x / 256 % 256) in
     ap (λ (t : List ℕ). t ++ drop 2 (bytes_of a)) (le_bytes-xor 2 x v ∙ (λ j. low j ∷ high j ∷ []))
+
+-- the same, stored into it
+pub byte_stored : (a : List (List ℕ)) (v : ℕ) → 0 < length a → 0 < length (get_or a 0 []) → v < 256
+    → bytes_of (set a 0 (set (get_or a 0 []) 0 (bit_xor (lane a 0 0) v))) ≡ xors (bytes_of a) (v ∷ []) ++ drop 1 (bytes_of a)
+unfolding bytes_of plane_bytes
+byte_stored [] v l m h = absurd (omega arith)
+byte_stored ([] ∷ a) v l m h = absurd (omega arith)
+byte_stored ((x ∷ p) ∷ a) v l m h = byte_in ((x ∷ p) ∷ a) v h

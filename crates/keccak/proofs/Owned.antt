@@ -29,7 +29,7 @@ lanes_fit a vs h x y = (fit a h.0 x y h.1.1).fits
 pub five_planes : (a : List (List ℕ)) (vs : List Val) → Owned a vs → length a ≡ 5
 five_planes a vs h = h.1.0.1
 
-long : (a : List (List ℕ)) (us : List Val) (y : ℕ) → y < length a → shadow (each (List ℕ) (Array (UInt w16) 5).own_val a us) → length (get_or a y []) ≡ 5
+pub long : (a : List (List ℕ)) (us : List Val) (y : ℕ) → y < length a → shadow (each (List ℕ) (Array (UInt w16) 5).own_val a us) → length (get_or a y []) ≡ 5
 long [] us y l h = absurd (not-suc-le-zero l)
 long (p ∷ a) [] y l h = absurd h
 long (p ∷ a) (u ∷ us) zero l h = h.0.1.0.1

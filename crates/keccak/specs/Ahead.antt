@@ -1,6 +1,6 @@
--- A reader may skip this file: what `rounds` promises speaks of bytes alone. It is how the code holds the shift register of algorithm 5:
--- not its eight bits, but the 32 bits that it gives next, as a number; and what the private functions make of one. That these are the
--- register's bits, and the constants', is shown where the code is proved, at every round index.
+-- A reader may skip this file: what `rounds` (crate engine) promises speaks of bytes alone. It is how the code holds the shift register of
+-- algorithm 5: not its eight bits, but the 32 bits that it gives next, as a number; and what the private functions make of one. That these
+-- are the register's bits, and the constants', is shown where the code is proved, at every round index.
 -- Assumes nothing.
 use Rattle.std.specs.Prelude.{ℕ, ◌+◌, ◌-◌, ◌*◌, ◌/◌, ◌%◌, ◌^◌}
 use Rattle.std.specs.Int.Bits.{bit_and, bit_or, bit_xor}

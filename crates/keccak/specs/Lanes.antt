@@ -1,10 +1,11 @@
--- A reader may skip this file: what `rounds` promises speaks of bytes alone. It is how the code holds the state, five planes of five
--- lanes of 16 bits, with the bytes and the bits that they stand for; and what the private functions make of a plane, lane by lane.
+-- A reader may skip this file: what `rounds` (crate engine) promises speaks of bytes alone. It is how the code holds the state, five planes
+-- of five lanes of 16 bits, with the bytes and the bits that they stand for; and what the private functions make of a plane, lane by lane.
 -- Assumes nothing.
-use Rattle.std.specs.Prelude.{List, [], ◌∷◌, ◌++◌, ℕ, ◌+◌, ◌-◌, ◌*◌, ◌%◌, get_or, take, drop}
+use Rattle.std.specs.Prelude.{List, [], ◌∷◌, ◌++◌, ℕ, ◌+◌, ◌-◌, ◌*◌, ◌%◌, ltb, get_or, take, drop}
 use Rattle.std.specs.Int.Bits.{bit_xor, bit_and}
 use Rattle.bits.specs.Digit.{bit}
 use Rattle.bits.specs.LittleEndian.{le_bytes, from_le}
+use Rattle.bits.specs.Pick.{pick}
 use Rattle.bits.specs.Rotate.{rotl}
 use Rattle.keccak.specs.Fips202.{StateArray}
 
@@ -64,13 +65,9 @@ turned_lane p by x = rotl 16 (at by x) (at p x)
 abbrev pub chi_lane : List ℕ → ℕ → ℕ
 chi_lane p x = bit_xor (at p x) (bit_and (65535 - at p ((x + 1) % 5)) (at p ((x + 2) % 5)))
 
--- a block of bytes from i on: a plane's five lanes xored with it, and its first four
+-- bytes from i on: a plane's first n lanes xored with them, the others as they are
 abbrev pub xored_lane : List ℕ → List ℕ → ℕ → ℕ → ℕ
 xored_lane p s x i = bit_xor (at p x) (lane_at s i)
 
-abbrev pub five_xored : List ℕ → List ℕ → ℕ → List ℕ
-five_xored p s i =
-    xored_lane p s 0 i ∷ xored_lane p s 1 (i + 2) ∷ xored_lane p s 2 (i + 4) ∷ xored_lane p s 3 (i + 6) ∷ xored_lane p s 4 (i + 8) ∷ []
-
-abbrev pub four_xored : List ℕ → List ℕ → ℕ → List ℕ
-four_xored p s i = xored_lane p s 0 i ∷ xored_lane p s 1 (i + 2) ∷ xored_lane p s 2 (i + 4) ∷ xored_lane p s 3 (i + 6) ∷ at p 4 ∷ []
+abbrev pub lanes_xored : ℕ → List ℕ → List ℕ → ℕ → List ℕ
+lanes_xored n p s i = five (λ x. pick (ltb x n) (xored_lane p s x (i + 2 * x)) (at p x))

@@ -8,11 +8,7 @@ ghost use Rattle.keccak.specs.Lanes.{array_of, five, chi_lane};
 fn mixed(p: [u16; 5]) -> [u16; 5]
     ensures { result ≡ five (chi_lane p) }
 {
-    let a = p[0];
-    let b = p[1];
-    let c = p[2];
-    let d = p[3];
-    let e = p[4];
+    let [a, b, c, d, e] = p;
     let na = !a;
     let nb = !b;
     let nd = !d;

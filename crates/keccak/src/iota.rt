@@ -28,8 +28,9 @@ pub fn start(i: u32) -> u32
 {
     let mut w = END;
     let mut left = 20 - i;
+    // no `for` over whole threes: with the rest behind them the archive would hold a word for each, with it in front a call costs more
     while left > 0 {
-        let n = if left < 3 { left } else { 3 };
+        let n = left.min(3);
         w = earlier(w, n);
         left -= n;
     }

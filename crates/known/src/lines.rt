@@ -1,7 +1,5 @@
 // Lines of a file of known answers: a name and a value each, in the text format of NIST's lightweight cryptography call.
-ghost use Rattle.std.specs.Prelude.{◌≤◌, IfOk, length};
-ghost use Rattle.console.specs.Counts.{IsPrefixLen};
-
+use arrayvec::ArrayVec;
 use console::read_full;
 use std::io;
 use std::io::Read;
@@ -13,140 +11,87 @@ pub enum Heading {
     Wrong,
 }
 
-// Where the value of a line stands, if the line has the name asked for and an end.
-#[derive(Clone, Copy)]
-struct Value {
-    good: bool,
-    from: usize,
-    end: usize,
-}
-
-// A length that no string has.
-const MALFORMED: u32 = 1000;
+// No line that is as it should be is longer.
+type Line = ArrayVec<u8, 128>;
 
 fn next_byte(input: &mut impl Read) -> io::Result<Option<u8>> {
-    let mut one = [0u8; 1];
-    let got = read_full(input, &mut one)?;
-    Ok(if got == 1 { Some(one[0]) } else { None })
+    let mut byte = [0u8; 1];
+    let got = read_full(input, &mut byte)?;
+    Ok((got == 1).then_some(byte[0]))
 }
 
 // Reads a line with its end, as far as there is room. At the end of the input there is nothing to read.
-fn read_line(input: &mut impl Read, line: &mut [u8]) -> io::Result<usize>
-    ensures { IfOk result (λ n. IsPrefixLen n line.new) }
-{
-    let mut n = 0;
-    while n < line.len() {
+fn read_line<const N: usize>(input: &mut impl Read) -> io::Result<ArrayVec<u8, N>> {
+    let mut line = ArrayVec::new();
+    while !line.is_full() {
         let Some(byte) = next_byte(input)? else {
             break;
         };
-        line[n] = byte;
-        n += 1;
+        line.push(byte);
         if byte == b'\n' {
             break;
         }
     }
-    Ok(n)
+    Ok(line)
 }
 
-fn value_of(line: &[u8], name: &[u8]) -> Value
-    ensures { (result.from ≤ result.end) × (result.end ≤ length line.now) }
-{
-    let from = name.len();
-    if line.len() <= from {
-        return Value {
-            good: false,
-            from: 0,
-            end: 0,
-        };
-    }
-    let end = line.len() - 1;
-    let good = &line[0..from] == name && line[end] == b'\n';
-    Value { good, from, end }
+// The value of a line, if it has the name asked for and an end.
+fn value_of<'a>(line: &'a Line, name: &[u8]) -> Option<&'a [u8]> {
+    line.as_slice().strip_prefix(name)?.strip_suffix(b"\n")
 }
 
-// A digit's value, or 16.
-fn digit(c: u8) -> u8 {
-    if b'0' <= c && c <= b'9' {
-        return c - b'0';
+// A digit's value. The files write none in small letters.
+fn digit(c: u8) -> Option<u8> {
+    match c {
+        b'0'..=b'9' => Some(c - b'0'),
+        b'A'..=b'F' => Some(c - b'A' + 10),
+        _ => None,
     }
-    if b'A' <= c && c <= b'F' {
-        return c - b'A' + 10;
-    }
-    16
 }
 
-// The bytes that a string of hex digits spells, at the start of a buffer, and whether it spells any.
-fn unhex(hex: &[u8], out: &mut [u8]) -> bool {
-    let n = hex.len() / 2;
+// The bytes that a string of hex digits spells, if it spells any and there is room for them.
+fn unhex<const N: usize>(hex: &[u8]) -> Option<ArrayVec<u8, N>> {
     if hex.len() % 2 != 0 {
-        return false;
+        return None;
     }
-    if out.len() < n {
-        return false;
+    let mut bytes = ArrayVec::new();
+    for pair in hex.chunks_exact(2) {
+        let byte = digit(pair[0])? << 4 | digit(pair[1])?;
+        bytes.try_push(byte).ok()?;
     }
-    for i in 0..n {
-        let high = digit(hex[2 * i]);
-        let low = digit(hex[2 * i + 1]);
-        if 15 < high || 15 < low {
-            return false;
-        }
-        out[i] = (high << 4) | low;
-    }
-    true
+    Some(bytes)
 }
 
-// The length of a value that was decoded; no value of the files is longer than 48 bytes.
-fn decoded(good: bool, hex: usize) -> u32 {
-    if !good {
-        return MALFORMED;
-    }
-    if 96 < hex {
-        return MALFORMED;
-    }
-    (hex / 2) as u32
+// Reads the line of that name: its value's bytes.
+pub fn read_hex<const N: usize>(
+    input: &mut impl Read,
+    name: &[u8],
+) -> io::Result<Option<ArrayVec<u8, N>>> {
+    let line = read_line(input)?;
+    let Some(hex) = value_of(&line, name) else {
+        return Ok(None);
+    };
+    Ok(unhex(hex))
 }
 
-fn decode(line: &[u8], name: &[u8], out: &mut [u8]) -> u32 {
-    let value = value_of(line, name);
-    if !value.good {
-        return MALFORMED;
-    }
-    let from = value.from;
-    let end = value.end;
-    let good = unhex(&line[from..end], out);
-    decoded(good, end - from)
-}
-
-// Reads the line of that name: its value's length in bytes.
-pub fn read_hex(input: &mut impl Read, name: &[u8], out: &mut [u8]) -> io::Result<u32> {
-    let mut line = [0u8; 128];
-    let n = read_line(input, &mut line)?;
-    Ok(decode(&line[..n], name, out))
-}
-
-fn is_count(line: &[u8], count: u32) -> bool {
-    let value = value_of(line, b"Count = ");
-    let from = value.from;
-    let end = value.end;
+fn is_count(line: &Line, count: u32) -> bool {
     let mut digits = itoa::Buffer::new();
-    value.good && &line[from..end] == digits.format(count).as_bytes()
+    value_of(line, b"Count = ") == Some(digits.format(count).as_bytes())
 }
 
 // The line that opens a case; it must have the count that comes next.
 pub fn read_heading(input: &mut impl Read, count: u32) -> io::Result<Heading> {
-    let mut line = [0u8; 128];
-    let n = read_line(input, &mut line)?;
-    if n == 0 {
+    let line = read_line(input)?;
+    if line.is_empty() {
         return Ok(Heading::End);
     }
-    if is_count(&line[..n], count) {
+    if is_count(&line, count) {
         return Ok(Heading::Right);
     }
     Ok(Heading::Wrong)
 }
 
 pub fn read_empty_line(input: &mut impl Read) -> io::Result<bool> {
-    let mut line = [0u8; 2];
-    let n = read_line(input, &mut line)?;
-    Ok(n == 1 && line[0] == b'\n')
+    let line = read_line::<2>(input)?;
+    Ok(line.as_slice() == b"\n".as_slice())
 }

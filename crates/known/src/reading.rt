@@ -1,83 +1,91 @@
 // A case of a file of known answers: its lines Count, Key, Nonce, PT, AD and CT, and an empty line.
-ghost use Rattle.std.specs.Prelude.{◌≡◌, length};
+ghost use Rattle.std.specs.Prelude.{◌≡◌, IfOk, IfSome};
+ghost use Rattle.arrayvec.specs.ArrayVec.{array_vec_len};
 
 use crate::{lines, saying};
+use arrayvec::ArrayVec;
 use std::io;
 use std::io::{Read, Write};
 
-#[derive(Clone, Copy)]
+// No string of the files is longer, but for a ciphertext with its tag.
+pub type Text = ArrayVec<u8, 32>;
+
+#[derive(Drop)]
 pub struct Case {
     pub count: u32,
     pub key: [u8; 16],
     pub nonce: [u8; 16],
-    // strings stand at the start of their arrays, with `blank` behind them
-    pub assoc: [u8; 32],
-    pub assoc_len: u32,
-    pub text: [u8; 32],
-    pub text_len: u32,
-    pub sealed: [u8; 32],
-    pub tag: [u8; 16],
-    // whether every line was as it should be
-    pub whole: bool,
+    pub assoc: Text,
+    pub text: Text,
+    pub sealed: Sealed,
+    ghost as_long: { array_vec_len sealed.text ≡ array_vec_len text },
 }
 
 // What a CT line holds: the ciphertext and the tag.
-#[derive(Clone, Copy)]
-struct Sealed {
-    out: [u8; 32],
-    tag: [u8; 16],
+#[derive(Drop)]
+pub struct Sealed {
+    pub text: Text,
+    pub tag: [u8; 16],
 }
 
-// What an output holds before a call: not zeros, so that zeros written would show. No string of the files is longer.
-pub fn blank() -> [u8; 32]
-    ensures { 32 ≡ length result }
+// What a line of sixteen bytes holds.
+fn read_sixteen(input: &mut impl Read, name: &[u8]) -> io::Result<Option<[u8; 16]>> {
+    let bytes = lines::read_hex(input, name)?;
+    Ok(bytes.and_then(|b| b.into_inner().ok()))
+}
+
+// The parts of what a CT line holds, if the ciphertext is as long as the text.
+fn parted(both: &[u8], text: &Text) -> Option<Sealed>
+    ensures { IfSome result (λ s. array_vec_len s.text ≡ array_vec_len text.now) }
 {
-    [170; 32]
+    let (sealed, tag) = both.split_last_chunk()?;
+    if sealed.len() != text.len() {
+        return None;
+    }
+    let text = Text::try_from(sealed).ok()?;
+    Some(Sealed { text, tag: *tag })
 }
 
-fn parted(both: [u8; 48], text_len: u32) -> Sealed {
-    let mut out = blank();
-    let mut tag = [0u8; 16];
-    let m = text_len as usize;
-    if m <= 32 {
-        let end = m + 16;
-        out[0..m].copy_from_slice(&both[0..m]);
-        tag.copy_from_slice(&both[m..end]);
-    }
-    Sealed { out, tag }
+// What the CT line of a text holds. Without a text there is no right one.
+fn read_sealed(input: &mut impl Read, text: &Option<Text>) -> io::Result<Option<Sealed>>
+    ensures { IfOk result (λ read. IfSome read (λ s. IfSome text.now (λ t. array_vec_len s.text ≡ array_vec_len t))) }
+{
+    let both = lines::read_hex::<48>(input, b"CT = ")?;
+    let (Some(text), Some(both)) = (text, &both) else {
+        return Ok(None);
+    };
+    Ok(parted(both.as_slice(), text))
 }
 
 // Reads the lines that follow a case's heading, and names those that are not as they should be.
-pub fn read_case(input: &mut impl Read, to: &mut impl Write, count: u32) -> io::Result<Case> {
-    let mut key = [0u8; 16];
-    let mut nonce = [0u8; 16];
-    let mut text = blank();
-    let mut assoc = blank();
-    let mut both = [0u8; 48];
-    let k = lines::read_hex(input, b"Key = ", &mut key)?;
-    let key_right = saying::line(to, count, b"Key", k == 16)?;
-    let n = lines::read_hex(input, b"Nonce = ", &mut nonce)?;
-    let nonce_right = saying::line(to, count, b"Nonce", n == 16)?;
-    let m = lines::read_hex(input, b"PT = ", &mut text)?;
-    let a = lines::read_hex(input, b"AD = ", &mut assoc)?;
-    let text_right = saying::line(to, count, b"PT", m <= 32)?;
-    let assoc_right = saying::line(to, count, b"AD", a <= 32)?;
-    let c = lines::read_hex(input, b"CT = ", &mut both)?;
-    let both_right = saying::line(to, count, b"CT", c == m.wrapping_add(16))?;
-    let end_right = saying::line(to, count, b"behind CT", lines::read_empty_line(input)?)?;
-    let s = parted(both, m);
-    let sealed = s.out;
-    let tag = s.tag;
-    Ok(Case {
+pub fn read_case(
+    input: &mut impl Read,
+    to: &mut impl Write,
+    count: u32,
+) -> io::Result<Option<Case>> {
+    let key = read_sixteen(input, b"Key = ")?;
+    saying::line(to, count, "Key", key.is_some())?;
+    let nonce = read_sixteen(input, b"Nonce = ")?;
+    saying::line(to, count, "Nonce", nonce.is_some())?;
+    let text = lines::read_hex(input, b"PT = ")?;
+    let assoc = lines::read_hex(input, b"AD = ")?;
+    saying::line(to, count, "PT", text.is_some())?;
+    saying::line(to, count, "AD", assoc.is_some())?;
+    let sealed = read_sealed(input, &text)?;
+    saying::line(to, count, "CT", sealed.is_some())?;
+    let end = lines::read_empty_line(input)?;
+    saying::line(to, count, "behind CT", end)?;
+    let (Some(key), Some(nonce), Some(text), Some(assoc), Some(sealed), true) = (
+        key, nonce, text, assoc, sealed, end,
+    ) else {
+        return Ok(None);
+    };
+    Ok(Some(Case {
         count,
         key,
         nonce,
         assoc,
-        assoc_len: a,
         text,
-        text_len: m,
         sealed,
-        tag,
-        whole: key_right && nonce_right && text_right && assoc_right && both_right && end_right,
-    })
+    }))
 }

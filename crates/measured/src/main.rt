@@ -10,29 +10,19 @@ use requests::Request;
 use std::io;
 use std::io::{Read, Write};
 
-fn say_number(to: &mut impl Write, n: u64) -> io::Result<()> {
-    write!(to, "{n} ")
-}
-
 // The request, and the checksum of its result.
 fn say_line(to: &mut impl Write, r: Request, sum: u64) -> io::Result<()> {
-    say_number(to, r.operation as u64)?;
-    say_number(to, r.instance as u64)?;
-    say_number(to, r.assoc as u64)?;
-    say_number(to, r.text as u64)?;
-    say_number(to, r.budget as u64)?;
-    say_number(to, r.repetitions as u64)?;
-    writeln!(to, "{sum:016x}")
+    write!(to, "{} {} {} {} ", r.operation, r.instance, r.assoc, r.text)?;
+    writeln!(to, "{} {} {sum:016x}", r.budget, r.repetitions)
 }
 
 // Does one request, and says whether to go on: not where the input has ended or asks for more than there is room for.
 fn answer_one(input: &mut impl Read, to: &mut impl Write) -> io::Result<bool> {
     let mut bytes = [0u8; 14];
-    let got = read_full(input, &mut bytes)?;
-    if got < 14 {
+    if read_full(input, &mut bytes)? < 14 {
         return Ok(false);
     }
-    let r = requests::request_of(bytes);
+    let r = Request::from(bytes);
     if 256 < r.assoc || 4096 < r.text {
         return Ok(false);
     }

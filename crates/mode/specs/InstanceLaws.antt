@@ -5,7 +5,7 @@ use Rattle.std.proofs.Common.{ltb-true, leb-true}
 use Rattle.bits.specs.Pick.{pick}
 use Rattle.bits.specs.Every.{passes, passes_at}
 use Rattle.bits.specs.Run.{Keeps}
-use Rattle.ascon.proofs.Laws.{ascon_keeps}
+use Rattle.ascon.specs.Laws.{ascon_keeps}
 use Rattle.keccak.specs.Laws.{keccak_keeps}
 use Rattle.mode.specs.Params.{Params, LawfulParams, iv}
 use Rattle.mode.specs.Instances.{isap_a128a, isap_a128, isap_k128a, isap_k128, params_of}

@@ -1,3 +1,4 @@
 pub mod Numbers
+pub mod Putting
 pub mod Parts
 pub mod Pieces

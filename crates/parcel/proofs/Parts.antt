@@ -7,8 +7,7 @@ use native.Mathlib.Nat.{zero-add}
 use native.Mathlib.Omega.{arith}
 use lib.ListN.{take, drop}
 use denote.Ref.{Bor}
-use Rattle.parcel.specs.declared.Reading.{Reading}
-use Rattle.parcel.specs.Reading.{part, read_of}
+use Rattle.parcel.specs.Reading.{Reading, part, read_of}
 use Rattle.parcel.specs.Statements.{IsPart}
 
 pub by_reading : (at : Reading → ℕ) (bytes : Reading → List ℕ → List ℕ) (p r : Bor (List ℕ)) (q : Reading) → q ≡ read_of p.now → IsPart p r (at q) (bytes q p.now)

@@ -5,7 +5,7 @@ use mathlib.Core.List.{List, [], ◌++◌, append-nil, append_assoc}
 use Prim.Native.Nat.{ℕ, ◌+◌, ◌-◌}
 use native.Mathlib.Omega.{arith}
 use lib.ListN.{length, take, drop, length-drop, length-append, drop_of_length-le}
-use lib.Seq.{take_at, drop_at, take_all, length-take-le}
+use lib.Seq.{take_at, drop_at, length-take-le}
 
 -- ---- the pieces: o is the output before, h header, x ciphertext, t tag
 
@@ -14,7 +14,7 @@ module _ (o h x t : List ℕ) (m : ℕ) (room : length o ≡ m + 31) (hl : lengt
   sealed = take 15 o ++ (x ++ drop (15 + m - 15) (drop 15 o))
 
   abbrev headed : List ℕ
-  headed = take 15 h ++ drop 15 sealed
+  headed = h ++ drop 15 sealed
 
   abbrev rest : List ℕ
   rest = drop m (drop 15 o)
@@ -25,7 +25,7 @@ module _ (o h x t : List ℕ) (m : ℕ) (room : length o ≡ m + 31) (hl : lengt
       drop_at (take 15 o) (x ++ drop (15 + m - 15) (drop 15 o)) 15 (length-take-le 15 o (omega arith)) ∙ ap (λ (k : ℕ). x ++ drop k (drop 15 o)) same
 
   headed_is : headed ≡ (h ++ x) ++ rest
-  headed_is = ap₂ (λ (a b : List ℕ). a ++ b) (take_all 15 h (omega arith)) sealed_tail ∙ sym (append_assoc h x rest)
+  headed_is = ap (λ (b : List ℕ). h ++ b) sealed_tail ∙ sym (append_assoc h x rest)
 
   front_long : length (h ++ x) ≡ 15 + m
   front_long = omega (arith, length-append h x)
@@ -34,10 +34,9 @@ module _ (o h x t : List ℕ) (m : ℕ) (room : length o ≡ m + 31) (hl : lengt
   rest_long = omega (arith, length-drop m (drop 15 o), length-drop 15 o)
 
   -- the header is copied to the front, then the tag to what lies behind the ciphertext
-  module _ (copied tagged : List ℕ) (first : copied ≡ take (length h) h ++ drop (length h) sealed)
-      (second : tagged ≡ take (length t) t ++ drop (length t) (take (length copied - (15 + m)) (drop (15 + m) copied))) where
+  module _ (copied tagged : List ℕ) (first : copied ≡ h ++ drop 15 sealed) (second : tagged ≡ t) where
     copied_is : copied ≡ (h ++ x) ++ rest
-    copied_is = first ∙ ap (λ (k : ℕ). take k h ++ drop k sealed) hl ∙ headed_is
+    copied_is = first ∙ headed_is
 
     front : take (15 + m) copied ≡ h ++ x
     front = ap (take (15 + m)) copied_is ∙ take_at (h ++ x) rest (15 + m) front_long
@@ -51,13 +50,7 @@ module _ (o h x t : List ℕ) (m : ℕ) (room : length o ≡ m + 31) (hl : lengt
     none : drop 16 rest ≡ []
     none = drop_of_length-le rest {i = 16} (omega (arith, rest_long))
 
-    tagged_is : tagged ≡ t
-    tagged_is =
-        second
-        ∙ ap₂ (λ (k : ℕ) (r : List ℕ). take k t ++ drop k r) tl (ap₂ (λ (k : ℕ) (r : List ℕ). take k r) left back ∙ take_all 16 rest (omega (arith, rest_long)))
-        ∙ ap₂ (λ (a b : List ℕ). a ++ b) (take_all 16 t (omega arith)) none ∙ append-nil t
-
     pub put_together : take (15 + m) copied ++ (tagged ++ drop (length copied - (15 + m)) (drop (15 + m) copied)) ≡ h ++ x ++ t
     put_together =
         ap₂ (λ (a b : List ℕ). a ++ b) front
-        (ap₂ (λ (a b : List ℕ). a ++ b) tagged_is (ap₂ (λ (k : ℕ) (r : List ℕ). drop k r) left back ∙ none) ∙ append-nil t)
+        (ap₂ (λ (a b : List ℕ). a ++ b) second (ap₂ (λ (k : ℕ) (r : List ℕ). drop k r) left back ∙ none) ∙ append-nil t)

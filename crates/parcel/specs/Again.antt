@@ -1,6 +1,6 @@
 -- A parcel that was read and opened, built again from its fields, its key, the opened text and the counter before: the same bytes.
 -- Assumes nothing.
-use Rattle.std.specs.Prelude.{◌≡◌, ℕ, ◌+◌, ◌-◌, ◌≤◌, ◌<◌, length}
+use Rattle.std.specs.Prelude.{◌≡◌, ℕ, ◌+◌, ◌-◌, ◌≤◌, ◌<◌, length, Ok}
 use Rattle.std.proofs.Math.Path.{sym, ap, ap₂}
 use Rattle.std.proofs.Common.{◌∙◌, subst}
 use Rattle.std.proofs.Math.Bool.{true}
@@ -18,19 +18,17 @@ use Rattle.instances.specs.Schemes.{known}
 use Rattle.isap.specs.Whole.{open_of, open_out}
 use Rattle.isap.specs.Above.{opened-fits, sealed-back, opened_long}
 use Rattle.parcel.specs.declared.Fields.{Fields}
-use Rattle.parcel.specs.declared.Reading.{Reading}
-use Rattle.parcel.specs.declared.Reading.TheVariants.{Whole}
 use Rattle.parcel.specs.Layout.{header_of, nonce_of, parcel_of}
 use Rattle.parcel.specs.Lengths.{nonce_bytes}
 use Rattle.parcel.specs.Headers.{fields_small, fields_header}
 use Rattle.parcel.specs.Building.{next_fields, refusal, sealed_under, built_of, built_out, CanBuild}
 use Rattle.parcel.specs.Fits.{builds_when}
-use Rattle.parcel.specs.Reading.{part, read_of}
+use Rattle.parcel.specs.Reading.{Reading, part, read_of}
 use Rattle.parcel.specs.Wholes.{IsWhole, is_whole, body_there, text_carried}
 use Rattle.parcel.specs.Opening.{open_by, out_by}
 use Rattle.parcel.specs.Statements.{Builds}
 
-module _ (of : ℕ → Scheme) (laws : (i : ℕ) → LawfulScheme (of i)) (p : List ℕ) (f : Fields) (read : read_of p ≡ Whole f) (bytes : Bytes p)
+module _ (of : ℕ → Scheme) (laws : (i : ℕ) → LawfulScheme (of i)) (p : List ℕ) (f : Fields) (read : read_of p ≡ Ok f) (bytes : Bytes p)
     (key buffer : List ℕ) (keys : Bytes key) (well : (open_by of (read_of p) key p buffer).number ≡ 0)
     (counter : f.counter ≡ 0 → ⊥) (out : List ℕ) (long : length out ≡ f.text + 31) where
   abbrev opened : List ℕ

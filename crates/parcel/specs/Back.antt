@@ -1,6 +1,6 @@
 -- What was built reads back to its fields, and opens under its key to its text, whatever follows it in the buffer.
 -- Assumes nothing.
-use Rattle.std.specs.Prelude.{◌≡◌, refl, true, false, ℕ, ◌+◌, ◌≤◌, ◌<◌, replicate, take}
+use Rattle.std.specs.Prelude.{◌≡◌, refl, true, false, ℕ, ◌+◌, ◌≤◌, ◌<◌, replicate, take, Ok}
 use Rattle.std.proofs.Common.{sym, ◌∙◌, subst, arith, drop_at, eq-eqb}
 use Rattle.std.proofs.Math.Path.{ap}
 use mathlib.Core.List.{List, ◌++◌, append_assoc}
@@ -16,14 +16,12 @@ use Rattle.isap.specs.Whole.{seal_of, seal_out, seal_tag, open_of, open_out}
 use Rattle.isap.specs.Statements.{Opens}
 use Rattle.isap.specs.Promises.{message_back}
 use Rattle.parcel.specs.declared.Fields.{Fields}
-use Rattle.parcel.specs.declared.Reading.{Reading}
-use Rattle.parcel.specs.declared.Reading.TheVariants.{Whole}
 use Rattle.parcel.specs.Layout.{header_of, nonce_of, parcel_of, most_carried}
 use Rattle.parcel.specs.Lengths.{header_long, header_bytes, nonce_bytes}
 use Rattle.parcel.specs.Headers.{InBytes, header_marked, header_fields}
 use Rattle.parcel.specs.Building.{next_fields, refusal, sealed_under, built_out, CanBuild}
 use Rattle.parcel.specs.Fits.{can_build, cipher_long_lem, tag_long_lem, not_refused, sealed-parts}
-use Rattle.parcel.specs.Reading.{part, marked, fields_in, read_of}
+use Rattle.parcel.specs.Reading.{Reading, part, marked, fields_in, read_of}
 use Rattle.parcel.specs.Wholes.{reads_whole}
 use Rattle.parcel.specs.Opening.{open_by, out_by}
 use Rattle.parcel.specs.Statements.{OpensParcel}
@@ -57,7 +55,7 @@ module _ (f : Fields) (s : Sealed) (cipher : length s.cipher ≡ f.text) (tag : 
   parcel_long =
       omega (arith, ap length behind, length-append (header_of f) (s.cipher ++ (s.tag ++ rest)), length-append s.cipher (s.tag ++ rest), length-append s.tag rest, header_long f)
 
-  pub parcel-reads : known f.instance ≡ true → f.text ≤ most_carried → InBytes f → read_of p ≡ Whole f
+  pub parcel-reads : known f.instance ≡ true → f.text ≤ most_carried → InBytes f → read_of p ≡ Ok f
   parcel-reads k t b =
       let fields : fields_in p ≡ f = ap fields_in behind ∙ header_fields f (s.cipher ++ (s.tag ++ rest)) b in
       reads_whole p f
@@ -93,7 +91,7 @@ module _ (of : ℕ → Scheme) (laws : (i : ℕ) → LawfulScheme (of i)) (insta
       ∙ cipher-part f s (cipher_long_lem of laws f key text (length out) can) (tag_long_lem of laws f key text (length out) can) rest
 
   module _ (stations : station < 65536) (counters : last < 18446744073709551616) where
-    pub built_reads : read_of (built_out of instance key station last text out ++ rest) ≡ Whole f
+    pub built_reads : read_of (built_out of instance key station last text out ++ rest) ≡ Ok f
     built_reads =
         let c = cipher_long_lem of laws f key text (length out) can in
         let t = tag_long_lem of laws f key text (length out) can in

@@ -1,6 +1,6 @@
 -- Two results that a public call's statement allows are equal; and what a host in C takes apart again.
 -- Assumes nothing.
-use Rattle.std.specs.Prelude.{◌≡◌, Bool, List, ℕ, ◌+◌, ◌/◌, ◌%◌, ◌≤◌, ◌<◌, eqb, leb, length, take}
+use Rattle.std.specs.Prelude.{◌≡◌, Bool, List, ℕ, Result, ◌+◌, ◌/◌, ◌%◌, ◌≤◌, ◌<◌, eqb, leb, length, take, Ok, Err}
 use Rattle.std.proofs.Common.{sym, ◌∙◌}
 use Rattle.std.proofs.Math.Path.{ap}
 use Rattle.std.proofs.Math.Bool.{true, false}
@@ -13,12 +13,12 @@ use Rattle.isap.specs.declared.Answer.{Answer}
 use Rattle.isap.specs.Whole.{packed}
 use Rattle.isap.specs.Determined as isap
 use Rattle.isap.specs.Determined.{packed-number, packed-rounds}
+use Rattle.parcel.specs.declared.refusals.Refusal.TheVariants.{UnknownInstance, TextTooLong, WrongMark, CutShort}
 use Rattle.parcel.specs.declared.Built.{Built}
 use Rattle.parcel.specs.declared.Fields.{Fields}
-use Rattle.parcel.specs.declared.Reading.{Reading}
-use Rattle.parcel.specs.declared.Reading.TheVariants.{Whole, Refused}
 use Rattle.parcel.specs.Layout.{nonce_of, most_carried, most_counter}
-use Rattle.parcel.specs.Reading.{part, marked, fields_in, unless, read_of, number_of}
+use Rattle.parcel.specs.Refusals.{number_of_refusal}
+use Rattle.parcel.specs.Reading.{Reading, part, marked, fields_in, unless, read_of, number_of}
 use Rattle.parcel.specs.Building.{build_refusal, refusal, built_of}
 use Rattle.parcel.specs.Opening.{open_by, out_by}
 use Rattle.parcel.specs.Statements.{Reads, TellsNumber, TellsFields, NumberInC, InstanceInC, StationInC, CounterInC, TextInC, IsPart, GivesCipher, GivesTag, Builds, OpensParcel, BuildsInC, OpensParcelInC}
@@ -36,11 +36,11 @@ one_cipher p r r' h k = one_part p r r' _ _ h k
 pub one_tag : (p r r' : Bor (List ℕ)) → GivesTag p r → GivesTag p r' → (r.now ≡ r'.now) × (r.ref_ptr ≡ r'.ref_ptr)
 one_tag p r r' h k = one_part p r r' _ _ h k
 
--- of what `read` gave
-pub one_number : (w : Reading) (r r' : ℕ) → TellsNumber w r → TellsNumber w r' → r ≡ r'
-one_number w r r' h k = h ∙ sym k
+-- of what `read` gave, or of any reading like it
+pub one_number : {R : Type 0} (number_is : R → ℕ) (w : Result Fields R) (r r' : ℕ) → TellsNumber number_is w r → TellsNumber number_is w r' → r ≡ r'
+one_number number_is w r r' h k = h ∙ sym k
 
-pub one_fields : (w : Reading) (r r' : Fields) → TellsFields w r → TellsFields w r' → r ≡ r'
+pub one_fields : {R : Type 0} (w : Result Fields R) (r r' : Fields) → TellsFields w r → TellsFields w r' → r ≡ r'
 one_fields w r r' h k = h ∙ sym k
 
 -- of what a host in C is told of a buffer
@@ -77,7 +77,7 @@ module _ (of : ℕ → Scheme) where
 
 -- ---- a packed answer taken apart: every number is small
 
-told_by : (a b c d e g : Bool) (f : Fields) → number_of (unless a 14 (unless b 12 (unless c 14 (unless d 1 (unless e 5 (unless g 14 (Whole f))))))) ≤ 14
+told_by : (a b c d e g : Bool) (f : Fields) → number_of number_of_refusal (unless a CutShort (unless b WrongMark (unless c CutShort (unless d UnknownInstance (unless e TextTooLong (unless g CutShort (Ok f))))))) ≤ 14
 unfolding number_of
 told_by true true true true true true f = omega arith
 told_by true true true true true false f = omega arith
@@ -87,7 +87,7 @@ told_by true true false d e g f = omega arith
 told_by true false c d e g f = omega arith
 told_by false b c d e g f = omega arith
 
-pub reading_small : (p : List ℕ) → number_of (read_of p) ≤ 14
+pub reading_small : (p : List ℕ) → number_of number_of_refusal (read_of p) ≤ 14
 unfolding read_of
 reading_small p =
     told_by (leb 2 (length p)) (marked p) (leb 15 (length p)) (known (fields_in p).instance) (leb (fields_in p).text most_carried) (leb (31 + (fields_in p).text) (length p)) (fields_in p)
@@ -129,11 +129,12 @@ module _ (of : ℕ → Scheme) where
   unfolding number_of
   opening_number key p out r o h = go (read_of p) (reading_small p) h
     where
-      go : (w : Reading) → number_of w ≤ 14
+      go : (w : Reading) → number_of number_of_refusal w ≤ 14
           → (r ≡ packed (open_by of w key p out).number (open_by of w key p out).rounds) × (o ≡ out_by of w key p out)
           → (r % 4294967296 ≡ (open_by of w key p out).number) × (r / 4294967296 ≡ (open_by of w key p out).rounds)
-      go (Whole f) s h =
+      go (Ok f) s h =
           isap.opening_number of f.instance key (nonce_of f.station f.counter) (take 15 p) (part 15 f.text p) out (part (15 + f.text) 16 p) r o h
-      go (Refused n) s h =
+      go (Err e) s h =
+          let n = number_of_refusal e in
           let small : n < 4294967296 = omega (arith, s) in
           (ap (λ (q : ℕ). q % 4294967296) h.0 ∙ packed-number n 0 small, ap (λ (q : ℕ). q / 4294967296) h.0 ∙ packed-rounds n 0 small)

@@ -1,5 +1,6 @@
 pub mod Layout
 pub mod Lengths
+pub mod Refusals
 pub mod Building
 pub mod Reading
 pub mod Opening

@@ -1,6 +1,6 @@
 -- Reading, the parts and opening depend on the parcel's own bytes alone: not on what follows them in the buffer.
 -- Assumes nothing.
-use Rattle.std.specs.Prelude.{◌≡◌, refl, ◌⊎◌, Bool, true, false, ◌&&◌, List, ℕ, ◌+◌, ◌≤◌, ◌<◌, leb, length, get_or}
+use Rattle.std.specs.Prelude.{◌≡◌, refl, ◌⊎◌, Bool, true, false, ◌&&◌, List, ℕ, ◌+◌, ◌≤◌, ◌<◌, leb, length, get_or, Ok, Err}
 use Rattle.std.proofs.Common.{sym, ap, ◌∙◌, subst, arith, length-take, get_or-take, leb-true, le-leb}
 use Rattle.std.proofs.Math.Path.{ap₂}
 use Rattle.std.proofs.Math.Logic.{inl, inr}
@@ -12,11 +12,11 @@ use Rattle.scheme.specs.Scheme.{Scheme}
 use Rattle.instances.specs.Schemes.{known}
 use Rattle.isap.specs.declared.Answer.{Answer}
 use Rattle.isap.specs.Whole.{open_of, open_out}
+use Rattle.parcel.specs.declared.refusals.Refusal.TheVariants.{UnknownInstance, TextTooLong, WrongMark, CutShort}
 use Rattle.parcel.specs.declared.Fields.{Fields}
-use Rattle.parcel.specs.declared.Reading.{Reading}
-use Rattle.parcel.specs.declared.Reading.TheVariants.{Whole, Refused}
+use Rattle.parcel.specs.declared.refusals.Refusal.{Refusal}
 use Rattle.parcel.specs.Layout.{mark, nonce_of, most_carried}
-use Rattle.parcel.specs.Reading.{part, marked, fields_in, unless, read_of}
+use Rattle.parcel.specs.Reading.{Reading, part, marked, fields_in, unless, read_of}
 use Rattle.parcel.specs.Wholes.{is_whole, reads_whole, body_there}
 use Rattle.parcel.specs.Opening.{open_by, out_by}
 use Rattle.parcel.specs.Statements.{OpensParcel}
@@ -48,8 +48,8 @@ module _ (p q : List ℕ) (k : ℕ) (same : take k q ≡ take k p) where
 
 -- ---- a whole parcel, and any buffer that begins with its bytes
 
-module _ (p q : List ℕ) (f : Fields) (read : read_of p ≡ Whole f) (same : take (31 + f.text) q ≡ take (31 + f.text) p) where
-  pub own_bytes : read_of q ≡ Whole f
+module _ (p q : List ℕ) (f : Fields) (read : read_of p ≡ Ok f) (same : take (31 + f.text) q ≡ take (31 + f.text) p) where
+  pub own_bytes : read_of q ≡ Ok f
   own_bytes =
       let h = is_whole p f read in
       let fields = same_fields p q (31 + f.text) same (omega arith) in
@@ -88,41 +88,41 @@ module _ (p q : List ℕ) (f : Fields) (read : read_of p ≡ Whole f) (same : ta
 -- ---- a refusal other than 14 depends on the bytes that were looked at: the mark, or the header
 
 -- the first test that fails: the mark's, the instance's, the limit's
-abbrev Why : (a b c d e : Bool) (n : ℕ) → Type 0
-Why a b c d e n =
-    ((a ≡ true) × (b ≡ false) × (12 ≡ n)) ⊎ (((a ≡ true) × (b ≡ true) × (c ≡ true)) × (((d ≡ false) × (1 ≡ n)) ⊎ ((d ≡ true) × (e ≡ false) × (5 ≡ n))))
+abbrev Why : (a b c d e : Bool) (r : Refusal) → Type 0
+Why a b c d e r =
+    ((a ≡ true) × (b ≡ false) × (WrongMark ≡ r)) ⊎ (((a ≡ true) × (b ≡ true) × (c ≡ true)) × (((d ≡ false) × (UnknownInstance ≡ r)) ⊎ ((d ≡ true) × (e ≡ false) × (TextTooLong ≡ r))))
 
-why : (a b c d e g : Bool) (f : Fields) (n : ℕ) → (n ≡ 14 → ⊥) → unless a 14 (unless b 12 (unless c 14 (unless d 1 (unless e 5 (unless g 14 (Whole f)))))) ≡ Refused n
-    → Why a b c d e n
-why true false c d e g f n h q = inl (refl, refl, cc)
-why true true true false e g f n h q = inr ((refl, refl, refl), inl (refl, cc))
-why true true true true false g f n h q = inr ((refl, refl, refl), inr (refl, refl, cc))
-why false b c d e g f n h q = absurd (h (cc))
-why true true false d e g f n h q = absurd (h (cc))
-why true true true true true false f n h q = absurd (h (cc))
-why true true true true true true f n h q = absurd (let z : ◌≡◌ {A = ℕ} 0 1 = cc in omega arith)
+why : (a b c d e g : Bool) (f : Fields) (r : Refusal) → (r ≡ CutShort → ⊥) → unless a CutShort (unless b WrongMark (unless c CutShort (unless d UnknownInstance (unless e TextTooLong (unless g CutShort (Ok f)))))) ≡ Err r
+    → Why a b c d e r
+why true false c d e g f r h q = inl (refl, refl, cc)
+why true true true false e g f r h q = inr ((refl, refl, refl), inl (refl, cc))
+why true true true true false g f r h q = inr ((refl, refl, refl), inr (refl, refl, cc))
+why false b c d e g f r h q = absurd (h (cc))
+why true true false d e g f r h q = absurd (h (cc))
+why true true true true true false f r h q = absurd (h (cc))
+why true true true true true true f r h q = absurd (cc)
 
 module _ (p q : List ℕ) where
   longer : (k : ℕ) → leb k (length p) ≡ true → take k q ≡ take k p → leb k (length q) ≡ true
   longer k e same = le-leb k (length q) (long_too p q k same (leb-true k (length p) e))
 
-  pub wrong_mark_alone : read_of p ≡ Refused 12 → take 2 q ≡ take 2 p → read_of q ≡ Refused 12
+  pub wrong_mark_alone : read_of p ≡ Err WrongMark → take 2 q ≡ take 2 p → read_of q ≡ Err WrongMark
   unfolding read_of
   wrong_mark_alone r same =
       by_cause
-      (why (leb 2 (length p)) (marked p) (leb 15 (length p)) (known (fields_in p).instance) (leb (fields_in p).text most_carried) (leb (31 + (fields_in p).text) (length p)) (fields_in p) 12
-      (λ e. omega (arith, e)) r)
+      (why (leb 2 (length p)) (marked p) (leb 15 (length p)) (known (fields_in p).instance) (leb (fields_in p).text most_carried) (leb (31 + (fields_in p).text) (length p)) (fields_in p) WrongMark
+      (λ e. cc) r)
     where
-      by_cause : Why (leb 2 (length p)) (marked p) (leb 15 (length p)) (known (fields_in p).instance) (leb (fields_in p).text most_carried) 12 → read_of q ≡ Refused 12
+      by_cause : Why (leb 2 (length p)) (marked p) (leb 15 (length p)) (known (fields_in p).instance) (leb (fields_in p).text most_carried) WrongMark → read_of q ≡ Err WrongMark
       by_cause (inl t) = rw (longer 2 t.0 same, same-mark p q 2 same (omega arith) ∙ t.1)
-      by_cause (inr (t, inl u)) = absurd (omega (arith, u.1))
-      by_cause (inr (t, inr u)) = absurd (omega (arith, u.2))
+      by_cause (inr (t, inl u)) = absurd (let e = u.1 in cc)
+      by_cause (inr (t, inr u)) = absurd (let e = u.2 in cc)
 
-  pub header_alone : (n : ℕ) → (n ≡ 14 → ⊥) → read_of p ≡ Refused n → take 15 q ≡ take 15 p → read_of q ≡ Refused n
+  pub header_alone : (e : Refusal) → (e ≡ CutShort → ⊥) → read_of p ≡ Err e → take 15 q ≡ take 15 p → read_of q ≡ Err e
   unfolding read_of
-  header_alone n h r same =
+  header_alone e h r same =
       by_cause
-      (why (leb 2 (length p)) (marked p) (leb 15 (length p)) (known (fields_in p).instance) (leb (fields_in p).text most_carried) (leb (31 + (fields_in p).text) (length p)) (fields_in p) n h r)
+      (why (leb 2 (length p)) (marked p) (leb 15 (length p)) (known (fields_in p).instance) (leb (fields_in p).text most_carried) (leb (31 + (fields_in p).text) (length p)) (fields_in p) e h r)
     where
       two : take 2 q ≡ take 2 p
       two = same-part p q 15 same 0 2 (omega arith)
@@ -133,7 +133,7 @@ module _ (p q : List ℕ) where
       fields : fields_in q ≡ fields_in p
       fields = same_fields p q 15 same (omega arith)
 
-      by_cause : Why (leb 2 (length p)) (marked p) (leb 15 (length p)) (known (fields_in p).instance) (leb (fields_in p).text most_carried) n → read_of q ≡ Refused n
-      by_cause (inl t) = rw (longer 2 t.0 two, mark-same ∙ t.1) (ap Refused t.2)
-      by_cause (inr (t, inl u)) = rw (longer 2 t.0 two, mark-same ∙ t.1, longer 15 t.2 same, fields, u.0) (ap Refused u.1)
-      by_cause (inr (t, inr u)) = rw (longer 2 t.0 two, mark-same ∙ t.1, longer 15 t.2 same, fields, u.0, u.1) (ap Refused u.2)
+      by_cause : Why (leb 2 (length p)) (marked p) (leb 15 (length p)) (known (fields_in p).instance) (leb (fields_in p).text most_carried) e → read_of q ≡ Err e
+      by_cause (inl t) = rw (longer 2 t.0 two, mark-same ∙ t.1) (ap Err t.2)
+      by_cause (inr (t, inl u)) = rw (longer 2 t.0 two, mark-same ∙ t.1, longer 15 t.2 same, fields, u.0) (ap Err u.1)
+      by_cause (inr (t, inr u)) = rw (longer 2 t.0 two, mark-same ∙ t.1, longer 15 t.2 same, fields, u.0, u.1) (ap Err u.2)

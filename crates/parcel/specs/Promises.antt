@@ -1,6 +1,6 @@
 -- The round trips of every instance, in the words of what the calls promise: any result that a statement allows is the one named.
 -- Assumes nothing.
-use Rattle.std.specs.Prelude.{◌≡◌, refl, Bool, true, false, List, ◌++◌, ℕ, ◌+◌, ◌-◌, ◌<◌, eqb, length, take}
+use Rattle.std.specs.Prelude.{◌≡◌, refl, Bool, true, false, List, ◌++◌, ℕ, ◌+◌, ◌-◌, ◌<◌, eqb, length, take, Ok}
 use Rattle.std.proofs.Common.{sym, ◌∙◌, subst, eqb-true, eq-eqb}
 use Rattle.std.proofs.Math.Path.{ap}
 use Rattle.std.proofs.lemmas.Bool.{eqb-false}
@@ -11,11 +11,9 @@ use Rattle.instances.specs.Schemes.{scheme_of, lawful-scheme, scheme-fits, key_b
 use Rattle.isap.specs.declared.Answer.{Answer}
 use Rattle.parcel.specs.declared.Fields.{Fields}
 use Rattle.parcel.specs.declared.Built.{Built}
-use Rattle.parcel.specs.declared.Reading.{Reading}
-use Rattle.parcel.specs.declared.Reading.TheVariants.{Whole}
 use Rattle.parcel.specs.Building.{next_fields, refusal, sealed_under, built_of, built_out}
 use Rattle.parcel.specs.Fits.{can_build}
-use Rattle.parcel.specs.Reading.{read_of, cipher_by}
+use Rattle.parcel.specs.Reading.{Reading, read_of, cipher_by}
 use Rattle.parcel.specs.Back.{built_reads, built_cipher, built_opens}
 use Rattle.parcel.specs.Again.{rebuilt}
 use Rattle.parcel.specs.Determined.{one_building, one_opening}
@@ -45,10 +43,10 @@ module _ (instance : ℕ) (key : List ℕ) (station last : ℕ) (text out : List
   unfolding built_of
   counter_next = ap (λ (b : Built). b.counter) built.0 ∙ rw (eq-eqb (refusal scheme_of instance key station last text out) 0 none)
 
-  pub parcel_read : (w : Reading) → Reads (out' ++ rest) w → w ≡ Whole (record { instance = instance; station = station; counter = r.counter; text = length text })
+  pub parcel_read : (w : Reading) → Reads (out' ++ rest) w → w ≡ Ok (record { instance = instance; station = station; counter = r.counter; text = length text })
   parcel_read w h =
       h ∙ ap (λ (p : List ℕ). read_of (p ++ rest)) built.1 ∙ built_reads scheme_of lawful-scheme instance key station last text out none rest stations counters
-      ∙ (λ i. Whole (record { instance = instance; station = station; counter = sym counter_next i; text = length text }))
+      ∙ (λ i. Ok (record { instance = instance; station = station; counter = sym counter_next i; text = length text }))
 
   -- the ciphertext that is read of it is the algorithm's, under the nonce of station and counter
   pub parcel-cipher : cipher_by (read_of (out' ++ rest)) (out' ++ rest) ≡ (sealed_under scheme_of (next_fields instance station last text) key text).cipher
@@ -72,7 +70,7 @@ module _ (instance : ℕ) (key : List ℕ) (station last : ℕ) (text out : List
 
 -- ---- what was read and opened is built again to the same bytes
 
-module _ (p : List ℕ) (bytes : Bytes p) (f : Fields) (read : Reads p (Whole f)) (key buffer : List ℕ) (keys : Bytes key)
+module _ (p : List ℕ) (bytes : Bytes p) (f : Fields) (read : Reads p (Ok f)) (key buffer : List ℕ) (keys : Bytes key)
     (a : Answer) (o : List ℕ) (opened : OpensParcel scheme_of key p buffer a o) (well : a.number ≡ 0) (counter : f.counter ≡ 0 → ⊥)
     (out : List ℕ) (long : length out ≡ f.text + 31) where
   pub parcel_again : (r : Built) (out' : List ℕ) → Builds scheme_of f.instance key f.station (f.counter - 1) o out r out'

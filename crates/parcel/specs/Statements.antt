@@ -1,7 +1,7 @@
 -- What each public call promises: all that it returns, and the final bytes of every buffer it was lent. A call's `ensures` is one of these;
 -- `Determined` shows that two results which one of them allows are equal.
 -- Assumes nothing.
-use Rattle.std.specs.Prelude.{◌≡◌, List, ℕ, ◌+◌, take}
+use Rattle.std.specs.Prelude.{◌≡◌, List, ℕ, Result, ◌+◌, take}
 use Rattle.std.specs.Borrow.{Bor}
 use Rattle.scheme.specs.Scheme.{Scheme}
 use Rattle.isap.specs.declared.Answer.{Answer}
@@ -9,10 +9,10 @@ use Rattle.isap.specs.Whole.{packed}
 use Rattle.isap.specs.Statements.{Opens}
 use Rattle.parcel.specs.declared.Fields.{Fields}
 use Rattle.parcel.specs.declared.Built.{Built}
-use Rattle.parcel.specs.declared.Reading.{Reading}
 use Rattle.parcel.specs.Layout.{nonce_of}
+use Rattle.parcel.specs.Refusals.{number_of_refusal}
 use Rattle.parcel.specs.Building.{built_of, built_out}
-use Rattle.parcel.specs.Reading.{part, read_of, number_of, fields_of, cipher_at, cipher_by, tag_at, tag_by}
+use Rattle.parcel.specs.Reading.{Reading, part, read_of, number_of, fields_of, cipher_at, cipher_by, tag_at, tag_by}
 use Rattle.parcel.specs.Opening.{open_by, out_by}
 
 -- ---- reading
@@ -20,15 +20,16 @@ use Rattle.parcel.specs.Opening.{open_by, out_by}
 abbrev pub Reads : (p : List ℕ) → Reading → Type 0
 Reads p r = r ≡ read_of p
 
-abbrev pub TellsNumber : Reading → ℕ → Type 0
-TellsNumber w r = r ≡ number_of w
+-- of a reading by reasons of any type, from the number of each
+abbrev pub TellsNumber : {R : Type 0} → (R → ℕ) → Result Fields R → ℕ → Type 0
+TellsNumber number_is w r = r ≡ number_of number_is w
 
-abbrev pub TellsFields : Reading → Fields → Type 0
+abbrev pub TellsFields : {R : Type 0} → Result Fields R → Fields → Type 0
 TellsFields w r = r ≡ fields_of w
 
 -- the same for a host in C, which is told them of a buffer one by one
 abbrev pub NumberInC : (p : List ℕ) → ℕ → Type 0
-NumberInC p r = r ≡ number_of (read_of p)
+NumberInC p r = r ≡ number_of number_of_refusal (read_of p)
 
 abbrev pub InstanceInC : (p : List ℕ) → ℕ → Type 0
 InstanceInC p r = r ≡ (fields_of (read_of p)).instance

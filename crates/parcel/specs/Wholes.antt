@@ -1,12 +1,13 @@
 -- What a reading says of the bytes: a whole parcel exactly when mark, instance, text length and body are all there.
 -- Assumes nothing.
-use Rattle.std.specs.Prelude.{◌≡◌, refl, Bool, true, false, List, ℕ, ◌+◌, ◌≤◌, leb, length}
+use Rattle.std.specs.Prelude.{◌≡◌, refl, Bool, true, false, List, ℕ, ◌+◌, ◌≤◌, leb, length, Ok, Err}
 use Rattle.std.proofs.Common.{ap, subst, arith, leb-true, le-leb}
 use Rattle.instances.specs.Schemes.{known}
+use Rattle.parcel.specs.declared.refusals.Refusal.TheVariants.{UnknownInstance, TextTooLong, WrongMark, CutShort}
 use Rattle.parcel.specs.declared.Fields.{Fields}
-use Rattle.parcel.specs.declared.Reading.TheVariants.{Whole, Refused}
+use Rattle.parcel.specs.declared.refusals.Refusal.{Refusal}
 use Rattle.parcel.specs.Layout.{most_carried}
-use Rattle.parcel.specs.Reading.{marked, fields_in, unless, read_of}
+use Rattle.parcel.specs.Reading.{Reading, marked, fields_in, unless, read_of}
 
 pub record IsWhole (p : List ℕ) (f : Fields) : Type 0 where
   pub is_marked : marked p ≡ true
@@ -17,10 +18,10 @@ pub record IsWhole (p : List ℕ) (f : Fields) : Type 0 where
 
 -- ---- a whole parcel, both ways
 
-no : {n : ℕ} {f : Fields} → Refused n ≡ Whole f → ⊥
-no q = let z : ◌≡◌ {A = ℕ} 0 1 = cc in omega arith
+no : {e : Refusal} {f : Fields} → ◌≡◌ {A = Reading} (Err e) (Ok f) → ⊥
+no q = cc
 
-passed : (a b c d e g : Bool) (r f : Fields) → unless a 14 (unless b 12 (unless c 14 (unless d 1 (unless e 5 (unless g 14 (Whole r)))))) ≡ Whole f
+passed : (a b c d e g : Bool) (r f : Fields) → unless a CutShort (unless b WrongMark (unless c CutShort (unless d UnknownInstance (unless e TextTooLong (unless g CutShort (Ok r)))))) ≡ Ok f
     → (b ≡ true) × (d ≡ true) × (e ≡ true) × (g ≡ true) × (r ≡ f)
 passed true true true true true true r f q = (refl, refl, refl, refl, cc)
 passed true true true true true false r f q = absurd (no q)
@@ -30,13 +31,13 @@ passed true true false d e g r f q = absurd (no q)
 passed true false c d e g r f q = absurd (no q)
 passed false b c d e g r f q = absurd (no q)
 
-pub is_whole : (p : List ℕ) (f : Fields) → read_of p ≡ Whole f → IsWhole p f
+pub is_whole : (p : List ℕ) (f : Fields) → read_of p ≡ Ok f → IsWhole p f
 unfolding read_of
 is_whole p f q =
     let t = passed (leb 2 (length p)) (marked p) (leb 15 (length p)) (known (fields_in p).instance) (leb (fields_in p).text most_carried) (leb (31 + (fields_in p).text) (length p)) (fields_in p) f q in
     record { is_marked = t.0; is_known = t.1; text_limit = leb-true _ _ t.2; there = leb-true _ _ t.3; same = t.4 }
 
-pub reads_whole : (p : List ℕ) (f : Fields) → IsWhole p f → read_of p ≡ Whole f
+pub reads_whole : (p : List ℕ) (f : Fields) → IsWhole p f → read_of p ≡ Ok f
 unfolding read_of
 reads_whole p f h =
     rw (
@@ -47,11 +48,11 @@ reads_whole p f h =
       le-leb (fields_in p).text most_carried h.text_limit,
       le-leb (31 + (fields_in p).text) (length p) h.there,
     )
-    (ap Whole h.same)
+    (ap Ok h.same)
 
 -- the body is there, and no text is longer than a parcel carries
-pub body_there : (p : List ℕ) (f : Fields) → read_of p ≡ Whole f → 31 + f.text ≤ length p
+pub body_there : (p : List ℕ) (f : Fields) → read_of p ≡ Ok f → 31 + f.text ≤ length p
 body_there p f q = let h = is_whole p f q in subst (λ (g : Fields). 31 + g.text ≤ length p) h.same h.there
 
-pub text_carried : (p : List ℕ) (f : Fields) → read_of p ≡ Whole f → f.text ≤ most_carried
+pub text_carried : (p : List ℕ) (f : Fields) → read_of p ≡ Ok f → f.text ≤ most_carried
 text_carried p f q = let h = is_whole p f q in subst (λ (g : Fields). g.text ≤ most_carried) h.same h.text_limit

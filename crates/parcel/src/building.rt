@@ -1,42 +1,34 @@
 // Building a parcel: its refusals, then header, ciphertext and tag, one behind the other.
 ghost use Rattle.std.specs.Prelude.{◌≡◌, ◌≤◌, ◌++◌, length, drop};
 ghost use Rattle.instances.specs.Schemes.{scheme_of};
+ghost use Rattle.parcel.specs.Refusals.{number_in};
 ghost use Rattle.parcel.specs.Building.{build_refusal, CanBuild, PutsParcel};
 ghost use Rattle.parcel.specs.Statements.{Builds};
 
-use crate::{Built, Fields, layout};
+use crate::{Built, Fields, Numbered, Refusal, layout};
 use isap::Answer;
 
-const COUNTER_SPENT: u32 = 13;
-
-// 1, 2, 5, 6, 13 in this order, from the instance, the lengths and the last counter; 0 if none applies.
-fn build_refusal(instance: u32, key: usize, m: usize, out: usize, last: u64) -> u32
-    ensures { result ≡ build_refusal scheme_of instance key m out last }
+// 1, 2, 5, 6, 13 in this order, from the instance, the lengths and the last counter.
+#[tactic(auto, unfolding(crate::specs::Building::build_refusal))]
+fn check(instance: u32, key: usize, m: usize, out: usize, last: u64) -> Result<(), Refusal>
+    ensures { number_in result ≡ build_refusal scheme_of instance key m out last }
 {
     if !isap::is_known(instance) {
-        return 1;
+        return Err(Refusal::UnknownInstance);
     }
     if key != isap::key_bytes(instance) {
-        return 2;
+        return Err(Refusal::KeyLength);
     }
     if (layout::MOST_CARRIED as usize) < m {
-        return 5;
+        return Err(Refusal::TextTooLong);
     }
     if out != m + layout::ADDED {
-        return 6;
+        return Err(Refusal::OutputLength);
     }
     if last == u64::MAX {
-        return COUNTER_SPENT;
+        return Err(Refusal::CounterSpent);
     }
-    0
-}
-
-// The bytes of `from` in place of the first of `to`.
-fn copy(from: &[u8], to: &mut [u8])
-    requires { length from.now ≤ length to.old }
-    ensures { to.new ≡ from.now ++ drop (length from.now) to.old }
-{
-    to[..from.len()].copy_from_slice(from);
+    Ok(())
 }
 
 // Writes the parcel of these fields: header, ciphertext, tag.
@@ -57,8 +49,8 @@ fn put_parcel(fields: Fields, key: &[u8], text: &[u8], out: &mut [u8]) -> Answer
         &mut out[layout::HEADER..end],
         &mut tag,
     );
-    copy(&header, out);
-    copy(&tag, &mut out[end..]);
+    out[..layout::HEADER].copy_from_slice(&header);
+    out[end..].copy_from_slice(&tag);
     sealed
 }
 
@@ -73,10 +65,9 @@ pub fn build(
 ) -> Built
     ensures { Builds scheme_of instance key.now station last text.now out.old result out.new }
 {
-    let refusal = build_refusal(instance, key.len(), text.len(), out.len(), last);
-    if refusal != 0 {
+    if let Err(refusal) = check(instance, key.len(), text.len(), out.len(), last) {
         return Built {
-            number: refusal,
+            number: refusal.number(),
             rounds: 0,
             counter: last,
         };

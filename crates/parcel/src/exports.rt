@@ -44,27 +44,23 @@ fn fields_read(parcel: &[u8]) -> Fields
 pub fn parcel_instance(parcel: &[u8]) -> u32
     ensures { InstanceInC parcel.now result }
 {
-    let fields = fields_read(parcel);
-    fields.instance
+    fields_read(parcel).instance
 }
 
 pub fn parcel_station(parcel: &[u8]) -> u16
     ensures { StationInC parcel.now result }
 {
-    let fields = fields_read(parcel);
-    fields.station
+    fields_read(parcel).station
 }
 
 pub fn parcel_counter(parcel: &[u8]) -> u64
     ensures { CounterInC parcel.now result }
 {
-    let fields = fields_read(parcel);
-    fields.counter
+    fields_read(parcel).counter
 }
 
 pub fn parcel_text(parcel: &[u8]) -> u32
     ensures { TextInC parcel.now result }
 {
-    let fields = fields_read(parcel);
-    fields.text
+    fields_read(parcel).text
 }

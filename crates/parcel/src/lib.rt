@@ -7,6 +7,7 @@ mod exports;
 mod layout;
 mod opening;
 mod reader;
+mod refusals;
 
 pub use building::build;
 pub use exports::{
@@ -15,9 +16,10 @@ pub use exports::{
 };
 pub use opening::open;
 pub use reader::{cipher, fields_of, number_of, read, tag};
+pub use refusals::{Numbered, Refusal};
 
 // What a parcel's header says, without the mark.
-#[derive(Clone, Copy)]
+#[derive(Clone, Copy, PartialEq, Eq)]
 pub struct Fields {
     pub instance: u32,
     pub station: u16,
@@ -26,16 +28,8 @@ pub struct Fields {
     pub text: u32,
 }
 
-// What stands at the start of a buffer.
-#[derive(Clone, Copy)]
-pub enum Reading {
-    // a whole parcel
-    Whole(Fields),
-    // none, by this number
-    Refused(u32),
-}
-
-// What building answers: the number, the rounds done, and the counter to keep, which is the parcel's own, or the one given if refused.
+// What building answers: the number, the rounds done, and the counter to keep, which is the parcel's own, or the one given if refused. The
+// number is a plain one, as a host in C gets it, and so the theorems on it say (`Builds`).
 #[derive(Clone, Copy)]
 pub struct Built {
     pub number: u32,

@@ -3,7 +3,7 @@ ghost use Rattle.std.specs.Prelude.{◌+◌, ◌≤◌, length};
 ghost use Rattle.instances.specs.Schemes.{scheme_of};
 ghost use Rattle.parcel.specs.Statements.{OpensWhole, OpensParcel};
 
-use crate::{Fields, Reading, layout, reader};
+use crate::{Fields, Numbered, layout, reader};
 use isap::Answer;
 
 fn open_whole(key: &[u8], fields: Fields, parcel: &[u8], out: &mut [u8]) -> Answer
@@ -28,12 +28,11 @@ fn open_whole(key: &[u8], fields: Fields, parcel: &[u8], out: &mut [u8]) -> Answ
 pub fn open(key: &[u8], parcel: &[u8], out: &mut [u8]) -> Answer
     ensures { OpensParcel scheme_of key.now parcel.now out.old result out.new }
 {
-    let reading = reader::read(parcel);
-    let Reading::Whole(fields) = reading else {
-        return Answer {
-            number: reader::number_of(reading),
+    match reader::read(parcel) {
+        Ok(fields) => open_whole(key, fields, parcel, out),
+        Err(refusal) => Answer {
+            number: refusal.number(),
             rounds: 0,
-        };
-    };
-    open_whole(key, fields, parcel, out)
+        },
+    }
 }

@@ -3,21 +3,22 @@ ghost use Rattle.std.specs.Prelude.{◌≡◌, ◌≤◌, length};
 ghost use Rattle.parcel.specs.Reading.{marked, fields_in};
 ghost use Rattle.parcel.specs.Statements.{Reads, TellsNumber, TellsFields, GivesCipher, GivesTag};
 
-use crate::layout::{ADDED, FIRST_MARK, HEADER, MOST_CARRIED, SECOND_MARK, TAG, number_at};
-use crate::{Fields, Reading};
+use crate::layout::{ADDED, FIRST_MARK, HEADER, MOST_CARRIED, SECOND_MARK, TAG};
+use crate::{Fields, Numbered, Refusal};
 
-const WRONG_MARK: u32 = 12;
+const NO_FIELDS: Fields = Fields {
+    instance: 0,
+    station: 0,
+    counter: 0,
+    text: 0,
+};
 
-const CUT_SHORT: u32 = 14;
-
+#[tactic(auto, unfolding(crate::specs::Reading::marked))]
 fn is_marked(parcel: &[u8]) -> bool
     requires { 2 ≤ length parcel.now }
     ensures { result ≡ marked parcel.now }
 {
-    if parcel[0] != FIRST_MARK {
-        return false;
-    }
-    parcel[1] == SECOND_MARK
+    parcel[0] == FIRST_MARK && parcel[1] == SECOND_MARK
 }
 
 fn fields_in(parcel: &[u8]) -> Fields
@@ -25,69 +26,64 @@ fn fields_in(parcel: &[u8]) -> Fields
     ensures { result ≡ fields_in parcel.now }
 {
     Fields {
-        instance: number_at(parcel, 2, 1) as u32,
-        station: number_at(parcel, 3, 2) as u16,
-        counter: number_at(parcel, 5, 8),
-        text: number_at(parcel, 13, 2) as u32,
+        instance: u32::from(parcel[2]),
+        station: u16::from_be_bytes(parcel[3..5].try_into().unwrap()),
+        counter: u64::from_be_bytes(parcel[5..13].try_into().unwrap()),
+        text: u32::from(u16::from_be_bytes(parcel[13..15].try_into().unwrap())),
     }
 }
 
-// Reads the parcel at the start of a buffer.
-pub fn read(parcel: &[u8]) -> Reading
+// Reads the parcel at the start of a buffer. Four reasons come: `CutShort`, `WrongMark`, `UnknownInstance`, `TextTooLong`.
+#[tactic(auto, unfolding(crate::specs::Reading::read_of))]
+pub fn read(parcel: &[u8]) -> Result<Fields, Refusal>
     ensures { Reads parcel.now result }
 {
     if parcel.len() < 2 {
-        return Reading::Refused(CUT_SHORT);
+        return Err(Refusal::CutShort);
     }
     if !is_marked(parcel) {
-        return Reading::Refused(WRONG_MARK);
+        return Err(Refusal::WrongMark);
     }
     if parcel.len() < HEADER {
-        return Reading::Refused(CUT_SHORT);
+        return Err(Refusal::CutShort);
     }
     let fields = fields_in(parcel);
     if !isap::is_known(fields.instance) {
-        return Reading::Refused(1);
+        return Err(Refusal::UnknownInstance);
     }
     if MOST_CARRIED < fields.text {
-        return Reading::Refused(5);
+        return Err(Refusal::TextTooLong);
     }
     if parcel.len() < ADDED + fields.text as usize {
-        return Reading::Refused(CUT_SHORT);
+        return Err(Refusal::CutShort);
     }
-    Reading::Whole(fields)
+    Ok(fields)
 }
 
 // The number of a reading: 0 of a whole parcel.
-pub fn number_of(reading: Reading) -> u32
-    ensures { TellsNumber reading result }
+#[tactic(auto, unfolding(crate::specs::Reading::number_of))]
+pub fn number_of<R: Numbered>(reading: Result<Fields, R>) -> u32
+    ensures { TellsNumber R.number_is reading result }
 {
-    let Reading::Refused(number) = reading else {
-        return 0;
-    };
-    number
+    match reading {
+        Ok(_) => 0,
+        Err(refusal) => refusal.number(),
+    }
 }
 
 // The fields of a reading: all zero on a refusal.
-pub fn fields_of(reading: Reading) -> Fields
+#[tactic(auto, unfolding(crate::specs::Reading::fields_of))]
+pub fn fields_of<R: Copy>(reading: Result<Fields, R>) -> Fields
     ensures { TellsFields reading result }
 {
-    let Reading::Whole(fields) = reading else {
-        return Fields {
-            instance: 0,
-            station: 0,
-            counter: 0,
-            text: 0,
-        };
-    };
-    fields
+    reading.unwrap_or(NO_FIELDS)
 }
 
 // The ciphertext, as a part of the buffer; empty on a refusal.
 pub fn cipher(parcel: &[u8]) -> &[u8]
     ensures { GivesCipher parcel.entry result }
 {
-    let Reading::Whole(fields) = read(parcel) else {
+    let Ok(fields) = read(parcel) else {
         return &parcel[..0];
     };
     let end = HEADER + fields.text as usize;
@@ -98,7 +94,7 @@ pub fn cipher(parcel: &[u8]) -> &[u8]
 pub fn tag(parcel: &[u8]) -> &[u8]
     ensures { GivesTag parcel.entry result }
 {
-    let Reading::Whole(fields) = read(parcel) else {
+    let Ok(fields) = read(parcel) else {
         return &parcel[..0];
     };
     let start = HEADER + fields.text as usize;

@@ -1,5 +1,5 @@
 // The buffers from which the lent parts are taken, each from its start. The second program has the same (`ROOM`).
-use case_file::filling::fill;
+use case_file::filling::Sequence;
 
 #[derive(Clone, Copy)]
 pub struct Room {
@@ -8,13 +8,14 @@ pub struct Room {
     pub out: [u8; 4200],
 }
 
-// One sequence fills all buffers in order.
-pub fn filled(seed: u64) -> Room {
-    let mut key = [0u8; 32];
-    let mut text = [0u8; 4200];
-    let mut out = [0u8; 4200];
-    let a = fill(&mut key, seed);
-    let b = fill(&mut text, a);
-    fill(&mut out, b);
-    Room { key, text, out }
+impl Room {
+    // One sequence fills all buffers in order.
+    pub fn filled(seed: u64) -> Self {
+        let mut sequence = Sequence::new(seed);
+        Room {
+            key: sequence.array(),
+            text: sequence.array(),
+            out: sequence.array(),
+        }
+    }
 }

@@ -4,118 +4,83 @@
 // order, through runs of a call's rounds. The file stdout holds what the second program (tests/second) computes on the same cases.
 #![tactic(auto)]
 
-ghost use Rattle.std.specs.Prelude.{◌+◌, ◌≤◌};
+ghost use Rattle.std.specs.Prelude.{ℕ, ◌≡◌, ◌+◌, ◌≤◌, length};
 
+use ascon::Words;
+use clyde::{Clyde, Direction};
 use console::read_full;
-use std::io;
+use keccak::Lanes;
+use shadow::Bundles;
 use std::io::{Read, Write};
+use std::{fmt, io};
 
-fn wide(b: u8) -> u64 {
-    b as u64
+// A state, printed in hex.
+#[derive(Clone, Copy)]
+struct Hex([u8; 66]);
+
+impl fmt::Display for Hex {
+    fn fmt<W: fmt::Write>(&self, f: &mut fmt::Formatter<W>) -> fmt::Result {
+        for b in self.0 {
+            write!(f, "{b:02x}")?;
+        }
+        Ok(())
+    }
 }
 
-fn hex(to: &mut impl Write, s: [u8; 66]) -> io::Result<()> {
-    for b in s {
-        let n = wide(b);
-        write!(to, "{n:02x}")?;
+// The state after rounds of a permutation.
+fn after<F: Fn(&mut [u8], u32, u32)>(rounds: F, state: [u8; 66], from: u32, count: u32) -> Hex
+    requires { (s : _) → length s.now ≡ 66 → F.pre rounds s from count }
+{
+    let mut s = state;
+    rounds(&mut s, from, count);
+    Hex(s)
+}
+
+fn of_ascon(to: &mut impl Write, state: [u8; 66]) -> io::Result<()> {
+    for count in [12, 8, 6, 1] {
+        let s = after(engine::rounds::<Words>, state, 12 - count, count);
+        writeln!(to, "ascon-p {count} {s}")?;
     }
     Ok(())
 }
 
-// The rounds, the state in hex, and the line's end.
-fn show(to: &mut impl Write, count: u32, s: [u8; 66]) -> io::Result<()> {
-    write!(to, "{count} ")?;
-    hex(to, s)?;
-    to.write_all(b"\n")
-}
-
-// The same with the first round before their number.
-fn show_run(to: &mut impl Write, from: u32, count: u32, s: [u8; 66]) -> io::Result<()> {
-    write!(to, "{from} ")?;
-    show(to, count, s)
-}
-
-fn ascon_last(to: &mut impl Write, state: [u8; 66], count: u32) -> io::Result<()>
-    requires { count ≤ 12 }
-{
-    let mut s = state;
-    ascon::rounds(&mut s, 12 - count, count);
-    to.write_all(b"ascon-p ")?;
-    show(to, count, s)
-}
-
-fn keccak_last(to: &mut impl Write, state: [u8; 66], count: u32) -> io::Result<()>
-    requires { count ≤ 20 }
-{
-    let mut s = state;
-    keccak::rounds(&mut s, 20 - count, count);
-    to.write_all(b"keccak-p ")?;
-    show(to, count, s)
-}
-
-fn shadow_run(to: &mut impl Write, state: [u8; 66], from: u32, count: u32) -> io::Result<()>
-    requires { from + count ≤ 12 }
-{
-    let mut s = state;
-    shadow::rounds(&mut s, from, count);
-    to.write_all(b"shadow-512 ")?;
-    show_run(to, from, count, s)
-}
-
-fn clyde_run(
-    to: &mut impl Write,
-    back: bool,
-    state: [u8; 66],
-    key: [u8; 16],
-    tweak: [u8; 16],
-    from: u32,
-    count: u32,
-) -> io::Result<()>
-    requires { from + count ≤ 12 }
-{
-    let mut s = state;
-    clyde::rounds(&mut s, back, &key, &tweak, from, count);
-    if back {
-        to.write_all(b"clyde-128-inverse ")?;
-    } else {
-        to.write_all(b"clyde-128 ")?;
+fn of_keccak(to: &mut impl Write, state: [u8; 66]) -> io::Result<()> {
+    for count in [20, 16, 12, 8, 1] {
+        let s = after(engine::rounds::<Lanes>, state, 20 - count, count);
+        writeln!(to, "keccak-p {count} {s}")?;
     }
-    show_run(to, from, count, s)
+    Ok(())
 }
 
-fn of_isap(to: &mut impl Write, state: [u8; 66]) -> io::Result<()> {
-    ascon_last(to, state, 12)?;
-    ascon_last(to, state, 8)?;
-    ascon_last(to, state, 6)?;
-    ascon_last(to, state, 1)?;
-    keccak_last(to, state, 20)?;
-    keccak_last(to, state, 16)?;
-    keccak_last(to, state, 12)?;
-    keccak_last(to, state, 8)?;
-    keccak_last(to, state, 1)
-}
+// All rounds of a call, the first, the second, some that begin within a step, and up to the last.
+const RUNS: [(u32, u32); 5] = [(0, 12), (0, 1), (1, 1), (1, 4), (5, 7)];
 
-// All rounds of a call, the first, the second, some that begin within a step, and up to the last; so for the cipher and its inverse.
 fn of_shadow(to: &mut impl Write, state: [u8; 66]) -> io::Result<()> {
-    shadow_run(to, state, 0, 12)?;
-    shadow_run(to, state, 0, 1)?;
-    shadow_run(to, state, 1, 1)?;
-    shadow_run(to, state, 1, 4)?;
-    shadow_run(to, state, 5, 7)
+    for (from, count) in RUNS {
+        let s = after(engine::rounds::<Bundles>, state, from, count);
+        writeln!(to, "shadow-512 {from} {count} {s}")?;
+    }
+    Ok(())
 }
 
+// The cipher, or its inverse.
 fn of_clyde(
     to: &mut impl Write,
-    back: bool,
+    name: &str,
+    cipher: Clyde,
+    direction: Direction,
     state: [u8; 66],
-    key: [u8; 16],
-    tweak: [u8; 16],
 ) -> io::Result<()> {
-    clyde_run(to, back, state, key, tweak, 0, 12)?;
-    clyde_run(to, back, state, key, tweak, 0, 1)?;
-    clyde_run(to, back, state, key, tweak, 1, 1)?;
-    clyde_run(to, back, state, key, tweak, 1, 4)?;
-    clyde_run(to, back, state, key, tweak, 5, 7)
+    for (from, count) in RUNS {
+        let s = after(
+            |s, from, count| cipher.rounds(direction, s, from, count),
+            state,
+            from,
+            count,
+        );
+        writeln!(to, "{name} {from} {count} {s}")?;
+    }
+    Ok(())
 }
 
 fn case(input: &mut impl Read, to: &mut impl Write) -> io::Result<()> {
@@ -125,10 +90,12 @@ fn case(input: &mut impl Read, to: &mut impl Write) -> io::Result<()> {
     read_full(input, &mut state)?;
     read_full(input, &mut key)?;
     read_full(input, &mut tweak)?;
-    of_isap(to, state)?;
+    of_ascon(to, state)?;
+    of_keccak(to, state)?;
     of_shadow(to, state)?;
-    of_clyde(to, false, state, key, tweak)?;
-    of_clyde(to, true, state, key, tweak)
+    let cipher = Clyde::new(&key, &tweak);
+    of_clyde(to, "clyde-128", cipher, Direction::Forward, state)?;
+    of_clyde(to, "clyde-128-inverse", cipher, Direction::Back, state)
 }
 
 fn main(rt: HostRuntime) -> io::Result<()> {

@@ -3,7 +3,6 @@
 use mathlib.Core.Path.{◌≡◌, sym, ap, ◌∙◌, subst}
 use mathlib.Core.List.{List}
 use Prim.Native.Nat.{ℕ, ◌+◌, ◌-◌, ◌*◌, ◌/◌, ◌%◌, ◌≤◌, ◌<◌}
-use native.Mathlib.Nat.{zero-add}
 use native.Mathlib.Numerals.{add-one}
 use native.Mathlib.Omega.{arith}
 use lib.ListN.{length, drop, drop_of_length-le}
@@ -14,11 +13,6 @@ use Rattle.stopping.specs.Places.{Place, place_of, shape_at, place}
 module _ (hs : List Shape) (n : ℕ) where
   abbrev pub Left : ℕ → ℕ → Type 0
   Left part left = place_of hs n ≡ behind part (place_of (drop part hs) left)
-
-  pub left_all : Left 0 n
-  left_all =
-      let w = place_of hs n in
-      ap (λ (j : ℕ). place j w.call w.round) (sym (zero-add w.part))
 
   pub left_none : (parts left : ℕ) → parts ≡ length hs → Left parts left → place_of hs n ≡ place parts 0 0
   unfolding place_of

@@ -3,3 +3,5 @@ pub mod PlanLaws
 pub mod Numbers
 pub mod Kinds
 pub mod Walks
+pub mod KindNumbers
+pub mod Refusals

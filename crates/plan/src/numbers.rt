@@ -3,8 +3,10 @@ ghost use Rattle.std.specs.Prelude.{◌≡◌, ◌+◌, ◌/◌, ◌≤◌};
 ghost use Rattle.mode.specs.Instances.{params_of};
 ghost use Rattle.mode.specs.Paper.{blocks};
 ghost use Rattle.mode.specs.Counts.{rekey_rounds, verify_rounds, encrypt_rounds};
-ghost use Rattle.instances.specs.Limits.{most_assoc, most_text, most_verify};
-ghost use Rattle.plan.specs.Numbers.{OfInstance, numbers};
+ghost use Rattle.instances.specs.Limits.{most_text, most_verify};
+ghost use Rattle.plan.specs.Numbers.{OfInstance};
+
+use crate::outlines::Outline;
 
 // The numbers of an instance: bytes of a state and of a block, rounds of the calls pH, pB, pE and pK, and rounds of the permutation.
 #[derive(Clone, Copy)]
@@ -18,33 +20,48 @@ pub struct Numbers {
     pub most: u32,
 }
 
-fn as_numbers(n: u32, b: u32, sh: u32, sb: u32, se: u32, sk: u32, most: u32) -> Numbers
-    ensures { result ≡ numbers n b sh sb se sk most }
-{
-    Numbers {
-        n,
-        b,
-        sh,
-        sb,
-        se,
-        sk,
-        most,
-    }
-}
-
+#[tactic(auto, using(crate::specs::Numbers::numbers_1, crate::specs::Numbers::numbers_2, crate::specs::Numbers::numbers_3, crate::specs::Numbers::numbers_4))]
 pub fn numbers_of(instance: u32) -> Numbers
     ensures { OfInstance instance result }
 {
-    if instance == 1 {
-        return as_numbers(40, 8, 12, 1, 6, 12, 12);
+    match instance {
+        1 => Numbers {
+            n: 40,
+            b: 8,
+            sh: 12,
+            sb: 1,
+            se: 6,
+            sk: 12,
+            most: 12,
+        },
+        2 => Numbers {
+            n: 40,
+            b: 8,
+            sh: 12,
+            sb: 12,
+            se: 12,
+            sk: 12,
+            most: 12,
+        },
+        3 => Numbers {
+            n: 50,
+            b: 18,
+            sh: 16,
+            sb: 1,
+            se: 8,
+            sk: 8,
+            most: 20,
+        },
+        _ => Numbers {
+            n: 50,
+            b: 18,
+            sh: 20,
+            sb: 12,
+            se: 12,
+            sk: 12,
+            most: 20,
+        },
     }
-    if instance == 2 {
-        return as_numbers(40, 8, 12, 12, 12, 12, 12);
-    }
-    if instance == 3 {
-        return as_numbers(50, 18, 16, 1, 8, 8, 20);
-    }
-    as_numbers(50, 18, 20, 12, 12, 12, 20)
 }
 
 // R
@@ -56,28 +73,27 @@ fn rekey_rounds(instance: u32) -> u32
 }
 
 // V
-pub fn verify_rounds(instance: u32, a: u32, m: u32) -> u32
-    requires { (a ≤ most_assoc) × (m ≤ most_text) }
-    ensures { (result ≡ verify_rounds (params_of instance) a m) × (result ≤ most_verify) }
+pub fn verify_rounds(outline: Outline) -> u32
+    ensures { (result ≡ verify_rounds (params_of outline.instance) outline.assoc outline.text) × (result ≤ most_verify) }
 {
-    let q = numbers_of(instance);
-    q.sh * (a / q.b + m / q.b + 4) + rekey_rounds(instance)
+    let q = numbers_of(outline.instance);
+    q.sh * (outline.assoc / q.b + outline.text / q.b + 4) + rekey_rounds(outline.instance)
 }
 
 // The blocks of a text, a last short one counted.
-pub fn blocks_of(instance: u32, m: u32) -> u32
-    requires { m ≤ most_text }
-    ensures { (result ≡ blocks (params_of instance) m) × (result ≤ most_text / 8) }
+#[tactic(auto, using(crate::proofs::Counting::blocks_is, instances::specs::Limits::blocks_most))]
+pub fn blocks_of(outline: Outline) -> u32
+    ensures { (result ≡ blocks (params_of outline.instance) outline.text) × (result ≤ most_text / 8) }
 {
-    let q = numbers_of(instance);
-    (m + (q.b - 1)) / q.b
+    let q = numbers_of(outline.instance);
+    (outline.text + (q.b - 1)) / q.b
 }
 
 // E
-pub fn encrypt_rounds(instance: u32, m: u32) -> u32
-    requires { m ≤ most_text }
-    ensures { result ≡ encrypt_rounds (params_of instance) m }
+#[tactic(auto, using(crate::proofs::Counting::encrypt_is))]
+pub fn encrypt_rounds(outline: Outline) -> u32
+    ensures { result ≡ encrypt_rounds (params_of outline.instance) outline.text }
 {
-    let q = numbers_of(instance);
-    rekey_rounds(instance) + q.se * blocks_of(instance, m)
+    let q = numbers_of(outline.instance);
+    rekey_rounds(outline.instance) + q.se * blocks_of(outline)
 }

@@ -4,32 +4,34 @@ ghost use Rattle.std.specs.Prelude.{◌≡◌, ℕ, ◌≤◌, ◌<◌};
 ghost use Rattle.stopping.specs.Places.{shape_at};
 ghost use Rattle.scheme.specs.Scheme.{all_shapes, parts_of};
 ghost use Rattle.instances.specs.Schemes.{known, is_spook, scheme_of};
-ghost use Rattle.instances.specs.Limits.{most_assoc, most_text, most_calls};
+ghost use Rattle.instances.specs.Limits.{most_calls};
 
 use crate::kinds::{count_of, kind_of, rounds_of};
 use crate::numbers::{encrypt_rounds, verify_rounds};
+use crate::outlines::Outline;
 use crate::walks;
 
-// The instance whose scheme is Spook; 1 to 4 are ISAP's.
+// The instance whose scheme is Spook; 1 to 4 are ISAP's. An instance is a number and no enum: C and records hand over any, and `known`,
+// `scheme_of` and `plan_of` speak of every number.
 pub const SPOOK: u32 = 5;
 
 // Which of the two schemes an instance has.
+#[tactic(auto, unfolding(instances::specs::Schemes::is_spook))]
 pub fn is_spook(instance: u32) -> bool
     ensures { result ≡ is_spook instance }
 {
     instance == SPOOK
 }
 
+#[tactic(auto, unfolding(instances::specs::Schemes::known))]
 pub fn is_known(instance: u32) -> bool
     ensures { result ≡ known instance }
 {
-    if instance < 1 {
-        return false;
-    }
-    instance <= 5
+    matches!(instance, 1..=5)
 }
 
 // Bytes of a key.
+#[tactic(auto, using(instances::specs::Schemes::key_bytes_lem))]
 pub fn key_bytes(instance: u32) -> usize
     ensures { result ≡ (scheme_of instance).key_bytes }
 {
@@ -46,18 +48,8 @@ pub fn parts_of(instance: u32, sealing: bool) -> u32
     11
 }
 
-// How many calls a part has, by its place in the direction's order, and how many rounds each of them.
-pub fn count_at(instance: u32, sealing: bool, a: u32, m: u32, part: u32) -> u32
-    requires { (a ≤ most_assoc) × (m ≤ most_text) × (part < parts_of (scheme_of instance) sealing) }
-    ensures { (result ≡ (shape_at (all_shapes (scheme_of instance) sealing a m) part).count) × (result ≤ most_calls) }
-{
-    if is_spook(instance) {
-        return walks::count_of(a, m, part);
-    }
-    let kind = kind_of(sealing, part);
-    count_of(instance, a, m, kind)
-}
-
+// How many rounds each call of a part has, by the part's place in the direction's order: a plain number with its bound here and in
+// `Outline`, since parts are walked by number.
 pub fn rounds_at(instance: u32, sealing: bool, part: u32) -> u32
     requires { part < parts_of (scheme_of instance) sealing }
     ensures { ((a m : ℕ) → result ≡ (shape_at (all_shapes (scheme_of instance) sealing a m) part).rounds) × (0 < result) × (result ≤ 20) }
@@ -69,30 +61,44 @@ pub fn rounds_at(instance: u32, sealing: bool, part: u32) -> u32
     rounds_of(instance, kind)
 }
 
-// The rounds up to the decision, and after it.
-pub fn front_rounds(instance: u32, sealing: bool, a: u32, m: u32) -> u32
-    requires { (a ≤ most_assoc) × (m ≤ most_text) }
-    ensures { result ≡ (scheme_of instance).front_count sealing a m }
-{
-    if is_spook(instance) {
-        return walks::verify_rounds(a, m);
+impl Outline {
+    // How many calls a part has. Compiled into the walk over the parts, it knows the kind of each.
+    #[inline(always)]
+    pub fn count_at(self, part: u32) -> u32
+        requires { part < parts_of (scheme_of self.instance) self.sealing }
+        ensures { (result ≡ (shape_at (all_shapes (scheme_of self.instance) self.sealing self.assoc self.text) part).count) × (result ≤ most_calls) }
+    {
+        if is_spook(self.instance) {
+            return walks::count_of(self, part);
+        }
+        let kind = kind_of(self.sealing, part);
+        count_of(self, kind)
     }
-    let v = verify_rounds(instance, a, m);
-    if !sealing {
-        return v;
-    }
-    encrypt_rounds(instance, m) + v
-}
 
-pub fn back_rounds(instance: u32, sealing: bool, a: u32, m: u32) -> u32
-    requires { (a ≤ most_assoc) × (m ≤ most_text) }
-    ensures { result ≡ (scheme_of instance).back_count sealing a m }
-{
-    if sealing {
-        return 0;
+    // The rounds up to the decision, and after it.
+    pub fn front_rounds(self) -> u32
+        ensures { result ≡ (scheme_of self.instance).front_count self.sealing self.assoc self.text }
+    {
+        if is_spook(self.instance) {
+            return walks::verify_rounds(self);
+        }
+        let v = verify_rounds(self);
+        if self.sealing {
+            encrypt_rounds(self) + v
+        } else {
+            v
+        }
     }
-    if is_spook(instance) {
-        return walks::second_rounds(a, m);
+
+    pub fn back_rounds(self) -> u32
+        ensures { result ≡ (scheme_of self.instance).back_count self.sealing self.assoc self.text }
+    {
+        if self.sealing {
+            return 0;
+        }
+        if is_spook(self.instance) {
+            return walks::second_rounds(self);
+        }
+        encrypt_rounds(self)
     }
-    encrypt_rounds(instance, m)
 }

@@ -1,62 +1,62 @@
--- The loop of `spell`, turn by turn: the digits still to come, then those that stand already.
+-- The digits of a number below 10,000,000 are those that the library writes, seven at most.
 -- Assumes nothing.
-use mathlib.Core.Path.{◌≡◌, refl, sym, ap, ap₂, ◌∙◌, subst}
-use mathlib.Core.List.{List, [], ◌∷◌, ◌++◌, append-nil}
-use Prim.Native.Nat.{ℕ, zero, suc, ◌+◌, ◌-◌, ◌/◌, ◌%◌, ◌≤◌, ◌<◌}
+use mathlib.Core.Path.{◌≡◌, ap, ◌∙◌}
+use mathlib.Core.List.{List, [], ◌∷◌, ◌++◌}
+use Prim.Native.Nat.{ℕ, suc, ◌+◌, ◌/◌, ◌%◌, ◌≤◌, ◌<◌}
 use native.Mathlib.Omega.{arith}
-use native.Mathlib.Numerals.{add-one}
-use lib.ListN.{length, set, take, drop, length-append, length-drop, length-set}
-use lib.Seq.{drop-cons, drop-drop, drop-length, drop-set-lt, get_or-set_same, set_split, append_snoc, length-take-le}
-use Rattle.bits.specs.Put.{put_at}
-use Rattle.planning.specs.Lines.{digits, places, decimal, Put}
-use Rattle.planning.specs.PutLaws.{put_then}
+use lib.ListN.{length}
+use borrow.Author.Tests.{lt-ltb, le-ltb}
+use Rattle.std.specs.Prelude.{ltb}
+use Rattle.std.proofs.Math.Decide.{dec_lt}
+use Rattle.std.proofs.lemmas.Fmt.{decimal_digit, decimal_step, length-decimal-le}
+use Rattle.std.specs.Fmt.{decimal as written}
+use Rattle.bits.specs.Pick.{pick}
+use Rattle.planning.specs.Lines.{digits, places, decimal}
 
-pub spell_all : (n : ℕ) (s : List ℕ) → digits (length s) n ≡ digits (length s) n ++ drop (length s) s
-spell_all n s = sym (ap (λ (u : List ℕ). digits (length s) n ++ u) (drop-length s) ∙ append-nil (digits (length s) n))
-
-next : (j left : ℕ) (s : List ℕ) → j < length s
-    → digits (suc j) left ++ drop (suc j) s ≡ digits j (left / 10) ++ drop j (set s j (48 + left % 10))
+one : (n : ℕ) → n < 10 → written n ≡ digits 1 n
 unfolding digits
-next j left s h =
-    let v = 48 + left % 10 in
-    let t = set s j v in
-    let long : j < length t = omega (arith, length-set s j v) in
-    append_snoc (digits j (left / 10)) v (drop (suc j) s)
-    ∙ ap (λ (u : List ℕ). digits j (left / 10) ++ u)
-    (sym (drop-cons t j 0 long ∙ ap₂ (λ (a : ℕ) (u : List ℕ). a ∷ u) (get_or-set_same s j v 0 h) (drop-set-lt (suc j) s j v (omega arith))))
+one n h =
+    let e : n ≡ n % 10 = omega arith in
+    decimal_digit n h ∙ ap (λ (d : ℕ). (48 + d) ∷ []) e
 
-pub spell_next : (i left v : ℕ) (s : List ℕ) → 0 < i → i ≤ length s → v ≡ 48 + left % 10
-    → digits i left ++ drop i s ≡ digits (i - 1) (left / 10) ++ drop (i - 1) (set s (i - 1) v)
-spell_next i left v s h l e =
-    let j : ℕ = i - 1 in
-    let q : suc j ≡ i = omega arith in
-    subst (λ (k : ℕ). digits k left ++ drop k s ≡ digits j (left / 10) ++ drop j (set s j (48 + left % 10))) q (next j left s (omega arith))
-    ∙ ap (λ (w : ℕ). digits j (left / 10) ++ drop j (set s j w)) (sym e)
-
-pub length_digits : (k n : ℕ) → length (digits k n) ≡ k
+more : (k n : ℕ) → 10 ≤ n → n < 10000000 → written (n / 10) ≡ digits k (n / 10) → written n ≡ digits (suc k) n
 unfolding digits
-length_digits zero n = refl
-length_digits (suc k) n = length-append (digits k (n / 10)) ((48 + n % 10) ∷ []) ∙ omega (arith, length_digits k (n / 10))
+more k n l h e = decimal_step n l (omega arith) ∙ ap (λ (u : List ℕ). u ++ ((48 + n % 10) ∷ [])) e
 
--- the digits put in a part of a buffer are the number put there
-pub put-part : (at k n : ℕ) (out ys : List ℕ) → k ≡ places n → k ≤ 7 → at + 7 ≤ length out → ys ≡ digits (length (take (at + k - at) (drop at out))) n
-    → Put at (decimal n) 7 out (take at out ++ (ys ++ drop (at + k - at) (drop at out))) (at + k)
-unfolding put_at decimal
-put-part at k n out ys e l h d =
-    let same : at + k - at ≡ k = omega arith in
-    let long : length (take (at + k - at) (drop at out)) ≡ places n =
-    ap (λ (j : ℕ). length (take j (drop at out))) same ∙ length-take-le k (drop at out) (omega (arith, length-drop at out)) ∙ e in
-    let size : length (digits (places n) n) ≡ k = length_digits (places n) n ∙ sym e in
-    record {
-      is =
-          ap₂ (λ (u : List ℕ) (j : ℕ). take at out ++ (u ++ drop j (drop at out))) (d ∙ ap (λ (j : ℕ). digits j n) long) same
-          ∙ ap (λ (u : List ℕ). take at out ++ (digits (places n) n ++ u)) (drop-drop k at out ∙ ap (λ (j : ℕ). drop (at + j) out) (sym size));
-      ends = ap (λ (j : ℕ). at + j) (sym size);
-      short = omega (arith, size);
-    }
+two : (n : ℕ) → 10 ≤ n → n < 100 → written n ≡ digits 2 n
+two n l h = more 1 n l (omega arith) (one (n / 10) (omega arith))
 
--- a character behind a string is the string and it
-pub put_one : (by : ℕ) {at k n : ℕ} {v s t : List ℕ} → Put at v k s t n → n < length t → at + k ≤ length s → Put at (v ++ (by ∷ [])) (k + 1) s (set t n by) (n + 1)
-unfolding put_at
-put_one by {at} {k} {n} {v} {s} {t} p h l =
-    put_then p (record { is = set_split t n by h ∙ ap (λ (j : ℕ). take n t ++ (by ∷ drop j t)) (sym (add-one n)); ends = refl; short = omega arith }) l
+three : (n : ℕ) → 100 ≤ n → n < 1000 → written n ≡ digits 3 n
+three n l h = more 2 n (omega arith) (omega arith) (two (n / 10) (omega arith) (omega arith))
+
+four : (n : ℕ) → 1000 ≤ n → n < 10000 → written n ≡ digits 4 n
+four n l h = more 3 n (omega arith) (omega arith) (three (n / 10) (omega arith) (omega arith))
+
+five : (n : ℕ) → 10000 ≤ n → n < 100000 → written n ≡ digits 5 n
+five n l h = more 4 n (omega arith) (omega arith) (four (n / 10) (omega arith) (omega arith))
+
+six : (n : ℕ) → 100000 ≤ n → n < 1000000 → written n ≡ digits 6 n
+six n l h = more 5 n (omega arith) (omega arith) (five (n / 10) (omega arith) (omega arith))
+
+seven : (n : ℕ) → 1000000 ≤ n → n < 10000000 → written n ≡ digits 7 n
+seven n l h = more 6 n (omega arith) h (six (n / 10) (omega arith) (omega arith))
+
+step : (n b k rest : ℕ) → (n < b → written n ≡ digits k n) → (b ≤ n → written n ≡ digits rest n) → written n ≡ digits (pick (ltb n b) k rest) n
+step n b k rest f g =
+    elim (dec_lt n b) [
+      | yes l ↦ rw (lt-ltb n b l) (f l)
+      | no l ↦ let h : b ≤ n = omega arith in rw (le-ltb n b h) (g h)
+    ]
+
+pub spelled : (n : ℕ) → n < 10000000 → written n ≡ decimal n
+unfolding places decimal
+spelled n h =
+    step n 10 1 _ (one n) (λ l.
+    step n 100 2 _ (two n l) (λ l.
+    step n 1000 3 _ (three n l) (λ l.
+    step n 10000 4 _ (four n l) (λ l.
+    step n 100000 5 _ (five n l) (λ l.
+    step n 1000000 6 _ (six n l) (λ l. seven n l h))))))
+
+pub at_most_seven : (n : ℕ) (s : List ℕ) → s ≡ written n → n < 10000000 → length s ≤ 7
+at_most_seven n s e h = omega (arith, ap length e, length-decimal-le 7 n (omega arith) (omega arith) (omega arith))

@@ -17,7 +17,7 @@ fn answer_one(input: &mut impl Read, to: &mut impl Write) -> io::Result<bool> {
         return Ok(false);
     }
     if got < 5 {
-        to.write_all(b"cut short\n")?;
+        writeln!(to, "cut short")?;
         return Ok(false);
     }
     let mut line = [0u8; 40];
@@ -38,6 +38,6 @@ fn answer_all(input: &mut impl Read, to: &mut impl Write) -> io::Result<()> {
 
 // The heading, and the answers.
 pub fn run(input: &mut impl Read, to: &mut impl Write) -> io::Result<()> {
-    to.write_all(b"instance assoc text verify total\n")?;
+    writeln!(to, "instance assoc text verify total")?;
     answer_all(input, to)
 }

@@ -3,7 +3,7 @@
 -- Assumes nothing.
 use Rattle.std.specs.Prelude.{◌≡◌, Bool, true, eqb, length, take}
 use Rattle.std.proofs.Math.Path.{refl, ap, ap₂}
-use Rattle.std.proofs.Common.{sym, ◌∙◌, subst, mul-le-mul_right, suc-mul, arith}
+use Rattle.std.proofs.Common.{sym, ◌∙◌, subst, arith}
 use mathlib.Core.List.{List}
 use Prim.Native.Nat.{ℕ, zero, suc, ◌+◌, ◌-◌, ◌*◌, ◌≤◌, ◌<◌}
 use borrow.Author.Tests.{eqb-true, ne_eqb}
@@ -27,7 +27,9 @@ use Rattle.plan.specs.Kinds.{shape_of}
 use Rattle.sponge.specs.Kinds.{part_of}
 use Rattle.sponge.specs.Leaves.{turn_of}
 use Rattle.sponge.specs.Offsets.{pad_offset, text_offset}
-use Rattle.rows.specs.Fed.{fed, bit_in, block_in, nothing_in, written_by}
+use Rattle.engine.proofs.Holding.{in_string}
+use Rattle.engine.specs.Fed.{fed, block_in, nothing_in, written_by}
+use Rattle.rows.specs.Bits.{bit_in}
 
 -- the kinds of part that have many calls: 1 and 8 the bits of a re-keying, 3 the text, 5 and 6 associated data and ciphertext
 unfoldable pub many : ℕ → Bool
@@ -92,10 +94,6 @@ module _ (p : Params) (x : Input) (kind : ℕ) (h : kind < 11) where
       ∙ ap (λ (u : Machine). written p x (call + k) (on_state f u)) (en (call + k) m (omega arith))
 
 -- ---- by kind
-
--- a block before the end of calls whose blocks the string has
-in_string : (b i n : ℕ) (t : List ℕ) → i < n → n * b ≤ length t → i * b + b ≤ length t
-in_string b i n t l h = omega (arith, mul-le-mul_right b l, suc-mul i b)
 
 module _ (instance call calls : ℕ) (sealing : Bool) (nonce assoc text state session out : List ℕ) where
   abbrev p : Params

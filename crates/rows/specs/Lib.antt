@@ -1,2 +1,2 @@
-pub mod Fed
+pub mod Bits
 pub mod Gone

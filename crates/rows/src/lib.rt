@@ -2,14 +2,41 @@
 // meets each `requires`. No branch and no index depends on nonce, state, session or text bytes.
 #![tactic(auto)]
 
-mod ascon_rows;
-mod keccak_rows;
-
 ghost use Rattle.std.specs.Prelude.{◌≡◌, ◌+◌, ◌*◌, ◌≤◌, length};
 ghost use Rattle.bits.specs.Pick.{pick};
+ghost use Rattle.bits.specs.Run.{run};
 ghost use Rattle.mode.specs.Instances.{params_of};
-ghost use Rattle.rows.specs.Fed.{fed, bit_in, block_in, nothing_in, written_by};
+ghost use Rattle.plan.specs.KindNumbers.{kind_number};
+ghost use Rattle.engine.specs.Fed.{fed, block_in, nothing_in, written_by};
+ghost use Rattle.rows.specs.Bits.{bit_in};
 ghost use Rattle.rows.specs.Gone.{rounds_of, many, CanGo, Gone};
+
+use ascon::Words;
+use engine::TakesBits;
+use keccak::Lanes;
+use plan::Kind;
+
+// Some calls in one go, a bit of a string entering with each: the words are loaded once, kept from call to call, and put back.
+fn each_bit<E: TakesBits>(
+    state: [u8; 64],
+    y: &[u8],
+    first: u32,
+    calls: u32,
+    from: u32,
+    count: u32,
+) -> [u8; 64]
+    requires { (first + calls ≤ 8 * length y.now) × (first + calls ≤ 128) × (from + count ≤ E.most) }
+    ensures { result ≡ fed (run E.width E.round from count) (bit_in y.now) first calls state }
+{
+    let mut words = E::load(&state);
+    for i in first..first + calls {
+        let bit = sponge::bit_at(y, i);
+        words = words.with_first(bit * 128).run(from, count);
+    }
+    let mut s = state;
+    words.store(&mut s);
+    s
+}
 
 // Bits of a re-keying.
 fn bits(instance: u32, state: [u8; 64], y: &[u8], first: u32, calls: u32) -> [u8; 64]
@@ -19,9 +46,9 @@ fn bits(instance: u32, state: [u8; 64], y: &[u8], first: u32, calls: u32) -> [u8
     let q = plan::numbers_of(instance);
     let from = q.most - q.sb;
     if sponge::on_ascon(instance) {
-        return ascon_rows::bits(state, y, first, calls, from, q.sb);
+        return each_bit::<Words>(state, y, first, calls, from, q.sb);
     }
-    keccak_rows::bits(state, y, first, calls, from, q.sb)
+    each_bit::<Lanes>(state, y, first, calls, from, q.sb)
 }
 
 // Blocks of a string that the MAC absorbs.
@@ -32,9 +59,9 @@ fn blocks(instance: u32, state: [u8; 64], src: &[u8], first: u32, calls: u32) ->
     let q = plan::numbers_of(instance);
     let from = q.most - q.sh;
     if sponge::on_ascon(instance) {
-        return ascon_rows::blocks(state, src, first as usize, calls as usize, from, q.sh);
+        return engine::blocks::<Words>(state, src, first as usize, calls as usize, from, q.sh);
     }
-    keccak_rows::blocks(state, src, first as usize, calls as usize, from, q.sh)
+    engine::blocks::<Lanes>(state, src, first as usize, calls as usize, from, q.sh)
 }
 
 // The ciphertext is the output of a sealing and the text of an opening.
@@ -71,35 +98,28 @@ fn texts(
     let q = plan::numbers_of(instance);
     let from = q.most - q.se;
     if sponge::on_ascon(instance) {
-        return ascon_rows::texts(out, text, state, first as usize, calls as usize, from, q.se);
+        return engine::texts::<Words>(out, text, state, first as usize, calls as usize, from, q.se);
     }
-    keccak_rows::texts(out, text, state, first as usize, calls as usize, from, q.se)
+    engine::texts::<Lanes>(out, text, state, first as usize, calls as usize, from, q.se)
 }
 
 // Whether a part of a kind has many calls.
-pub fn has_many(kind: u32) -> bool
-    ensures { result ≡ many kind }
+#[tactic(auto, unfolding(crate::specs::Gone::many))]
+pub fn has_many(kind: Kind) -> bool
+    ensures { result ≡ many (kind_number kind) }
 {
-    if kind == 1 {
-        return true;
-    }
-    if kind == 8 {
-        return true;
-    }
-    if kind == 5 {
-        return true;
-    }
-    if kind == 6 {
-        return true;
-    }
-    kind == 3
+    matches!(
+        kind,
+        Kind::KeyBits | Kind::Texts | Kind::Assocs | Kind::Ciphers | Kind::MacKeyBits
+    )
 }
 
 // The state after `calls` calls of such a part from `call` on, none of them its first or its last.
+// The job's bytes come one by one: each kind of part needs others of them, and `out` is read by some and written by one.
 pub fn go(
     instance: u32,
     sealing: bool,
-    kind: u32,
+    kind: Kind,
     call: u32,
     calls: u32,
     nonce: [u8; 16],
@@ -109,20 +129,14 @@ pub fn go(
     text: &[u8],
     out: &mut [u8],
 ) -> [u8; 64]
-    requires { CanGo instance kind call calls assoc.now text.now out.old }
-    ensures { Gone instance kind call calls sealing nonce assoc.now text.now state session out.old result out.new }
+    requires { CanGo instance (kind_number kind) call calls assoc.now text.now out.old }
+    ensures { Gone instance (kind_number kind) call calls sealing nonce assoc.now text.now state session out.old result out.new }
 {
-    if kind == 1 {
-        return bits(instance, state, &nonce, call, calls);
+    match kind {
+        Kind::KeyBits => bits(instance, state, &nonce, call, calls),
+        Kind::MacKeyBits => bits(instance, state, &session[..16], call, calls),
+        Kind::Assocs => blocks(instance, state, assoc, call, calls),
+        Kind::Ciphers => ciphers(instance, sealing, state, text, &out[..], call, calls),
+        _ => texts(instance, out, text, state, call, calls),
     }
-    if kind == 8 {
-        return bits(instance, state, &session[..16], call, calls);
-    }
-    if kind == 5 {
-        return blocks(instance, state, assoc, call, calls);
-    }
-    if kind == 6 {
-        return ciphers(instance, sealing, state, text, &out[..], call, calls);
-    }
-    texts(instance, out, text, state, call, calls)
 }

@@ -1,1 +1,2 @@
 mod Blocks
+mod Places

@@ -44,7 +44,7 @@ mac_state p x kind call s ss o =
 unfoldable pub session_bytes : Params → (kind : ℕ) → (state session : List ℕ) → List ℕ
 session_bytes p kind s ss = pick (eqb kind 7) (put (take p.n s) ss) (pick (eqb kind 10) (put (replicate p.n 0) ss) ss)
 
-unfoldable state_bytes : Params → Input → (kind call : ℕ) → (state session out : List ℕ) → List ℕ
+unfoldable pub state_bytes : Params → Input → (kind call : ℕ) → (state session out : List ℕ) → List ℕ
 state_bytes p x kind call s ss o = pick (ltb kind 4) (encryption_state p x.key x.nonce kind call s) (mac_state p x kind call s ss o)
 
 module _ (p : Params) (x : Input) where
@@ -58,7 +58,7 @@ module _ (p : Params) (x : Input) where
 
 -- a state and session bytes found so are those with which the call begins
 module _ (instance kind call : ℕ) (x : Input) (s ss o : List ℕ) where
-  entered_by : (s' ss' : List ℕ) → kind < 11
+  pub entered_by : (s' ss' : List ℕ) → kind < 11
       → s' ≡ state_bytes (params_of instance) x kind call s ss o → ss' ≡ session_bytes (params_of instance) kind s ss
       → Entered instance kind call x s ss o s' ss'
   unfolding Entered

@@ -1,17 +1,19 @@
 -- What a loop keeps that holds Shadow's state in words from call to call: the words' bytes and the output are those after so many calls.
 -- Assumes nothing.
-use mathlib.Core.Path.{◌≡◌, refl, sym, ap, ◌∙◌, subst}
+use mathlib.Core.Path.{◌≡◌, refl, sym, ap, ap₂, ◌∙◌, subst}
 use mathlib.Core.Bool.{Bool, true, false}
-use mathlib.Core.List.{List, ◌++◌}
-use Prim.Native.Nat.{ℕ, suc, ◌+◌, ◌*◌, ◌≤◌, ◌<◌}
+use mathlib.Core.List.{List, ◌++◌, append-nil}
+use Prim.Native.Nat.{ℕ, zero, suc, ◌+◌, ◌-◌, ◌*◌, ◌≤◌, ◌<◌}
 use native.Mathlib.Nat.{zero-add}
 use native.Mathlib.Numerals.{add-one}
 use native.Mathlib.Omega.{arith}
-use lib.ListN.{length, drop}
+use lib.ListN.{length, drop, drop_of_length-le}
+use lib.Seq.{take_all}
 use Rattle.bits.specs.Pick.{pick}
-use Rattle.bits.specs.Run.{turns, rounds, front, Keeps}
+use Rattle.bits.specs.Run.{turns, rounds, run, front, Keeps, length-rounds}
+use Rattle.bits.proofs.Run.{run-front}
+use Rattle.engine.specs.Fed.{fed, block_in}
 use Rattle.bits.specs.Put.{put}
-use Rattle.bits.specs.Xors.{xors}
 use Rattle.bits.specs.Strings.{xor_into, block}
 use Rattle.stopping.specs.Stopped.{whole}
 use Rattle.stopping.specs.Parts.{call_of}
@@ -31,10 +33,6 @@ use Rattle.spook.specs.Going.{Gone, DataGone, TextGone}
 use Rattle.spook.proofs.Blocks.{block_long}
 
 -- ---- a whole block
-
-whole_data : (a s : List ℕ) → length a ≡ 32 → last_data a s ≡ xors s a ++ drop 32 s
-unfolding xor_into
-whole_data a s h = full_data a s h ∙ ap (λ (n : ℕ). xors s a ++ drop n s) h
 
 whole_text : (c s : List ℕ) → length c ≡ 32 → last_text c s ≡ c ++ drop 32 s
 unfolding put
@@ -86,14 +84,6 @@ module _ (p : Cipher) (keeps : Keeps 64 p.round) where
       ap (whole (call_of (part_of p (given b key nonce assoc text) writes count 2) (call + k))) (h b writes text o count key nonce ss g)
       ∙ data_call b writes key nonce assoc text count (call + k) u v w ss o g long d e room
 
-  pub data_more : (call k : ℕ) (assoc s u v w : List ℕ) → DataGone p call k assoc s u → length u ≡ 64 → (call + k) * 32 + 32 < length assoc
-      → v ≡ xors u (block 32 (call + k) assoc) ++ drop 32 u → w ≡ rounds p.round 0 12 v → DataGone p call (k + 1) assoc s w
-  data_more call k assoc s u v w h long room e d =
-      let x = block 32 (call + k) assoc in
-      let full : length x ≡ 32 = block_long (call + k) assoc (omega arith) in
-      subst (λ (n : ℕ). DataGone p call n assoc s w) (sym (add-one k))
-      (data_next call k assoc s u v w h (whole_data x u full ∙ sym e) (omega (arith, (blocks_are (length assoc)).0)) (ap length (e ∙ sym (whole_data x u full)) ∙ length-last_data x u (omega arith) (omega arith) ∙ long) d)
-
   -- ---- the same over blocks of the text, with the output
 
   pub text_none : (b writes : Bool) (call : ℕ) (text s o u : List ℕ) → u ≡ s → TextGone p b writes call 0 text s o u o
@@ -121,3 +111,51 @@ module _ (p : Cipher) (keeps : Keeps 64 p.round) where
       (ap (last_text x) (first-later (call + k) text_mark u late) ∙ whole_text x u full ∙ sym e)
       (ap length (e ∙ sym (whole_text x u full)) ∙ length-last_text x u (omega arith) ∙ long) d
       (f ∙ ap (λ (n : ℕ). pick writes (block_written n text w y) y) (add-one (call + k))))
+
+  -- the same, as a loop over the calls' numbers has it
+  pub text_more-at : (b writes : Bool) (call i : ℕ) (text s o u v w y z : List ℕ) → call ≤ i → TextGone p b writes call (i - call) text s o u y
+      → length u ≡ 64 → length y ≡ length text → 0 < call → i * 32 + 32 ≤ length text
+      → v ≡ block 32 i (pick b y text) ++ drop 32 u → w ≡ rounds p.round 0 12 v
+      → z ≡ pick writes (block_written (i + 1) text w y) y → TextGone p b writes call (i + 1 - call) text s o w z
+  text_more-at b writes call i text s o u v w y z le h long same later room e d f =
+      let k = i - call in
+      let here : i ≡ call + k = omega arith in
+      let next : k + 1 ≡ i + 1 - call = omega arith in
+      subst (λ (n : ℕ). TextGone p b writes call n text s o w z) next
+      (text_more b writes call k text s o u v w y z h long same later (omega arith)
+      (e ∙ ap (λ (n : ℕ). block 32 n (pick b y text) ++ drop 32 u) here) d
+      (f ∙ ap (λ (n : ℕ). pick writes (block_written (n + 1) text w y) y) here))
+
+  -- ---- blocks of the data, as an engine takes them in (`engine`, `blocks`)
+
+  -- a run on a whole buffer
+  whole_run : (v : List ℕ) → length v ≡ 64 → run 64 p.round 0 12 v ≡ rounds p.round 0 12 v
+  whole_run v h =
+      run-front keeps 0 12 v (omega arith)
+      ∙ ap₂ (λ (x y : List ℕ). rounds p.round 0 12 x ++ y) (take_all 64 v (omega arith)) (drop_of_length-le v {i = 64} (omega arith))
+      ∙ append-nil (rounds p.round 0 12 v)
+
+  abbrev data_after : (call calls : ℕ) (assoc s : List ℕ) → List ℕ
+  data_after call calls assoc s = fed (run 64 p.round 0 12) (block_in 32 assoc) call calls s
+
+  data_after_is : (call calls : ℕ) (assoc s : List ℕ) → length s ≡ 64 → (call + calls) * 32 < length assoc
+      → (length (data_after call calls assoc s) ≡ 64) × DataGone p call calls assoc s (data_after call calls assoc s)
+  unfolding fed
+  data_after_is call zero assoc s long room = (long, data_none call assoc s s refl)
+  data_after_is call (suc k) assoc s long room =
+      let u = data_after call k assoc s in
+      let before = data_after_is call k assoc s long (omega arith) in
+      let x = block 32 (call + k) assoc in
+      let full : length x ≡ 32 = block_long (call + k) assoc (omega arith) in
+      let v = xor_into x u in
+      let enters : last_data x u ≡ v = full_data x u full in
+      let v_long : length v ≡ 64 = ap length (sym enters) ∙ length-last_data x u (omega arith) (omega (arith, before.0)) ∙ before.0 in
+      let run_is = whole_run v v_long in (
+        ap length run_is ∙ length-rounds keeps 0 12 v v_long,
+        data_next call k assoc s u v (run 64 p.round 0 12 v) before.1 enters (omega (arith, (blocks_are (length assoc)).0)) v_long run_is,
+      )
+
+  pub data_fed : (call calls : ℕ) (assoc s t : List ℕ) → length s ≡ 64 → (call + calls) * 32 < length assoc
+      → t ≡ data_after call calls assoc s → DataGone p call calls assoc s t
+  data_fed call calls assoc s t long room e =
+      subst (λ (u : List ℕ). DataGone p call calls assoc s u) (sym e) (data_after_is call calls assoc s long room).1

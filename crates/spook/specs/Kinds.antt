@@ -20,6 +20,16 @@ use Rattle.s1p.specs.Paper.{blocks}
 use Rattle.s1p.specs.Parts.{unless_empty, seed, begin, assocs, texts, tagging, verifying, sealing_course, opening_course, course}
 use Rattle.s1p.specs.Counts.{walk_calls, front_shapes, back_shapes, second_shapes, blocks_are}
 use Rattle.s1p.specs.Scheme.{s1p_scheme}
+use Rattle.spook.specs.declared.kinds.Kind.{Kind}
+use Rattle.spook.specs.declared.kinds.Kind.TheVariants.{Seed, Start, Data, Text, Closing}
+
+-- a kind's number, the place of its part in the first walk and the closing call
+abbrev pub number : Kind → ℕ
+number Seed = 0
+number Start = 1
+number Data = 2
+number Text = 3
+number Closing = 4
 
 -- whether a part's calls write to the output: all of a sealing, and an opening's second walk
 unfoldable pub writes_in : (sealing : Bool) → (part : ℕ) → Bool

@@ -8,9 +8,11 @@ ghost use Rattle.s1p.specs.Spook.{spook};
 ghost use Rattle.spook.specs.Kinds.{CanCall};
 ghost use Rattle.spook.specs.Entering.{state_bytes, session_bytes};
 
+use crate::kinds::Kind;
 use strings::{absorb, front, put_at};
 
 // Sixteen bytes, then zeros: what a call of Clyde has for its state.
+#[tactic(auto, using(crate::proofs::Blocks::widened))]
 fn widened(sixteen: [u8; 16]) -> [u8; 64]
     ensures { result ≡ sixteen ++ replicate 48 0 }
 {
@@ -19,6 +21,7 @@ fn widened(sixteen: [u8; 16]) -> [u8; 64]
 }
 
 // The nonce between zeros, and the seed behind them.
+#[tactic(auto, using(crate::proofs::Blocks::started))]
 fn started(nonce: [u8; 16], state: [u8; 64]) -> [u8; 64]
     ensures { result ≡ iv nonce ++ take 16 state }
 {
@@ -28,13 +31,13 @@ fn started(nonce: [u8; 16], state: [u8; 64]) -> [u8; 64]
 }
 
 // A number xored into one byte: a mark, or the padding's byte.
-fn marked(state: [u8; 64], i: usize, v: u8) -> [u8; 64]
+#[tactic(auto, unfolding(bits::specs::Strings::xor_at))]
+fn marked(mut state: [u8; 64], i: usize, v: u8) -> [u8; 64]
     requires { i < 64 }
     ensures { result ≡ xor_at i v state }
 {
-    let mut s = state;
-    s[i] = s[i] ^ v;
-    s
+    state[i] ^= v;
+    state
 }
 
 // Block `call` of the data; a short one is marked, and padded behind its own bytes.
@@ -66,6 +69,7 @@ fn take_cipher(state: [u8; 64], cipher: &[u8], call: u32) -> [u8; 64]
 }
 
 // The text's mark, before its first block.
+#[tactic(auto, unfolding(s1p::specs::Paper::text_mark))]
 fn text_mark(state: [u8; 64], call: u32) -> [u8; 64]
     ensures { result ≡ first call text_mark state }
 {
@@ -98,6 +102,7 @@ fn closing(sealing: bool, state: [u8; 64], tag: [u8; 16]) -> [u8; 64]
 }
 
 // The state, by the part's kind.
+#[tactic(auto, using(s1p::proofs::Laws::put_all, crate::proofs::Blocks::started_long, crate::proofs::Blocks::closed_long, crate::specs::Kinds::in_data, crate::specs::Kinds::in_text), unfolding(crate::specs::Entering::state_bytes))]
 pub fn enter_state(
     sealing: bool,
     part: u32,
@@ -112,33 +117,23 @@ pub fn enter_state(
     requires { CanCall spook sealing part call assoc.now text.now out.now }
     ensures { result ≡ state_bytes sealing nonce tag assoc.now text.now (part % 5) call state out.now }
 {
-    let kind = part % 5;
-    if kind == 0 {
-        return widened(nonce);
+    match Kind::of(part) {
+        Kind::Seed => widened(nonce),
+        Kind::Start => started(nonce, state),
+        Kind::Data => absorb_data(state, assoc, call),
+        Kind::Text => enter_text(sealing, state, text, out, call),
+        Kind::Closing => closing(sealing, state, tag),
     }
-    if kind == 1 {
-        return started(nonce, state);
-    }
-    if kind == 2 {
-        return absorb_data(state, assoc, call);
-    }
-    if kind == 3 {
-        return enter_text(sealing, state, text, out, call);
-    }
-    closing(sealing, state, tag)
 }
 
 // The session bytes: cleared with a seed, and Shadow's state from the closing call on.
+#[tactic(auto, using(s1p::proofs::Laws::put_all), unfolding(crate::specs::Entering::session_bytes))]
 pub fn enter_session(part: u32, state: [u8; 64], session: [u8; 64]) -> [u8; 64]
     ensures { result ≡ session_bytes (part % 5) state session }
 {
-    let kind = part % 5;
-    if kind == 0 {
-        let zeros = [0u8; 64];
-        return zeros;
+    match Kind::of(part) {
+        Kind::Seed => [0u8; 64],
+        Kind::Closing => state,
+        Kind::Start | Kind::Data | Kind::Text => session,
     }
-    if kind == 4 {
-        return state;
-    }
-    session
 }

@@ -5,19 +5,19 @@ ghost use Rattle.s1p.specs.Spook.{spook};
 ghost use Rattle.spook.specs.Kinds.{writes_in, CanCall};
 ghost use Rattle.spook.specs.Leaving.{first_written, out_left, tag_left};
 
+use crate::kinds::Kind;
 use strings::{front, write_text};
 
 // Whether a part's calls write: all of a sealing, and an opening's second walk.
+#[tactic(auto, unfolding(crate::specs::Kinds::writes_in))]
 pub fn writes_in(sealing: bool, part: u32) -> bool
     ensures { result ≡ writes_in sealing part }
 {
-    if sealing {
-        return true;
-    }
-    4 < part
+    sealing || 4 < part
 }
 
 // Whether so many blocks of the data are all of them.
+#[tactic(auto, using(crate::proofs::Blocks::reaches))]
 fn all_data(assoc: &[u8], done: usize) -> bool
     requires { (done ≤ blocks (length assoc.now)) × (done ≤ 4294967296) }
     ensures { result ≡ eqb done (blocks (length assoc.now)) }
@@ -36,6 +36,7 @@ fn write_first(out: &mut [u8], text: &[u8], assoc: &[u8], state: [u8; 64], done:
 }
 
 // The output, by the part's kind.
+#[tactic(auto, using(crate::specs::Kinds::data_count), unfolding(crate::specs::Leaving::out_left, crate::specs::Leaving::out_written))]
 pub fn leave_out(
     out: &mut [u8],
     text: &[u8],
@@ -51,30 +52,22 @@ pub fn leave_out(
     if !writes_in(sealing, part) {
         return;
     }
-    let kind = part % 5;
     let next = call as usize + 1;
-    if kind == 1 {
-        write_first(out, text, assoc, state, 0);
-        return;
-    }
-    if kind == 2 {
-        write_first(out, text, assoc, state, next);
-        return;
-    }
-    if kind == 3 {
-        write_text(out, text, state, next, 32);
+    match Kind::of(part) {
+        Kind::Start => write_first(out, text, assoc, state, 0),
+        Kind::Data => write_first(out, text, assoc, state, next),
+        Kind::Text => write_text(out, text, state, next, 32),
+        Kind::Seed | Kind::Closing => {}
     }
 }
 
 // The tag: the state's first sixteen bytes at the end of a sealing.
+#[tactic(auto, unfolding(crate::specs::Leaving::tag_left))]
 pub fn leave_tag(sealing: bool, part: u32, state: [u8; 64], tag: [u8; 16]) -> [u8; 16]
     ensures { result ≡ tag_left sealing (part % 5) state tag }
 {
-    if part % 5 != 4 {
-        return tag;
+    match Kind::of(part) {
+        Kind::Closing => { if sealing { front(state) } else { tag } }
+        Kind::Seed | Kind::Start | Kind::Data | Kind::Text => tag,
     }
-    if sealing {
-        return front(state);
-    }
-    tag
 }

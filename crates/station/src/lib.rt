@@ -12,8 +12,5 @@ pub fn slice_kept(job: &mut Job, assoc: &[u8], text: &[u8], out: &mut [u8], budg
 {
     let sliced = isap::slice(*job, assoc, text, out, budget);
     *job = sliced.job;
-    Answer {
-        number: sliced.number,
-        rounds: sliced.rounds,
-    }
+    sliced.into()
 }

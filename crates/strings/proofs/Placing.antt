@@ -1,32 +1,16 @@
--- What a loop does that puts a string in place, absorbs it or writes it, byte by byte, and what parts of texts come to.
+-- What a loop does that absorbs a string or writes it, byte by byte, and what parts of texts come to.
 -- Assumes nothing.
 use mathlib.Core.Path.{◌≡◌, refl, sym, ap, ◌∙◌}
-use mathlib.Core.List.{List, [], ◌∷◌, ◌++◌, append_assoc}
+use mathlib.Core.List.{List, [], ◌∷◌, ◌++◌}
 use Prim.Native.Nat.{ℕ, zero, suc, ◌+◌, ◌-◌, ◌*◌, ◌≤◌, ◌<◌, min}
 use native.Mathlib.Decide.{dec_lt}
 use native.Mathlib.Omega.{arith}
 use lib.Bits.{bit_xor}
 use lib.ListN.{length, get_or, take, drop, set, length-drop}
-use lib.Seq.{drop-drop, length-take-le, paste, paste-suc, take_all}
+use lib.Seq.{drop-drop, length-take-le, take_all}
 use Rattle.bits.specs.Put.{put_at}
 use Rattle.bits.specs.Xors.{xors, length-xors, xors_none}
 use Rattle.bits.specs.Strings.{xor_into, block}
-
--- ---- a string put in place
-
--- the same as the library's copy
-put_at_paste : (at : ℕ) (xs s : List ℕ) (i : ℕ) → i ≤ length xs → put_at at (take i xs) s ≡ paste s at xs i
-unfolding put_at
-put_at_paste at xs s i h =
-    ap (λ (k : ℕ). take at s ++ (take i xs ++ drop (at + k) s)) (length-take-le i xs h) ∙ sym (append_assoc (take at s) (take i xs) (drop (at + i) s))
-
--- one byte more
-pub put_at_more : (at : ℕ) (xs s : List ℕ) (i : ℕ) → i < length xs → at + length xs ≤ length s
-    → set (put_at at (take i xs) s) (at + i) (get_or xs i 0) ≡ put_at at (take (suc i) xs) s
-put_at_more at xs s i h b =
-    ap (λ (u : List ℕ). set u (at + i) (get_or xs i 0)) (put_at_paste at xs s i (omega arith))
-    ∙ paste-suc s at xs i 0 (omega arith) h
-    ∙ sym (put_at_paste at xs s (suc i) h)
 
 -- ---- a string absorbed
 

@@ -1,12 +1,12 @@
 // A host task that keeps the record of one job in its own memory and serves the sampler after each slice of it.
 #![tactic(auto)]
 
-ghost use Rattle.std.specs.Prelude.{◌≡◌, ◌+◌, ◌-◌, ◌<◌, eqb, ltb};
+ghost use Rattle.std.specs.Prelude.{◌≡◌, ◌+◌, ◌-◌, ◌<◌, eqb};
 ghost use Rattle.bits.specs.Pick.{pick};
 ghost use Rattle.instances.specs.Schemes.{scheme_of};
 ghost use Rattle.task.specs.Turns.{served_of, RunsTask};
 
-use isap::{Answer, Job};
+use isap::{Answer, Job, UNDER_WAY};
 
 // A turn is a slice of the job, and then the sampler.
 #[derive(Clone, Copy)]
@@ -17,7 +17,7 @@ pub struct Turns {
     pub served: u32,
     // the most rounds that it waited for
     pub waited: u32,
-    // the number of the last slice, 100 where there was none
+    // the number of the last slice, `UNDER_WAY` where there was none
     pub number: u32,
 }
 
@@ -28,24 +28,19 @@ pub struct Kept {
     pub job: Job,
 }
 
-fn larger(a: u32, b: u32) -> u32
-    ensures { result ≡ pick (ltb a b) b a }
-{
-    if a < b { b } else { a }
-}
-
 // The turns that are left after a slice: none, if the job was refused or has ended.
 fn left_after(left: u32, number: u32) -> u32
     requires { 0 < left }
     ensures { result ≡ pick (eqb number 100) (left - 1) 0 }
 {
-    if number != 100 {
+    if number != UNDER_WAY {
         return 0;
     }
     left - 1
 }
 
 // Serves the sampler after a slice.
+#[tactic(auto, unfolding(crate::specs::Turns::served_of))]
 fn served(turns: Turns, answer: Answer) -> Turns
     requires { (0 < turns.left) × (turns.served + 1 < 4294967296) }
     ensures { result ≡ served_of turns answer }
@@ -53,12 +48,13 @@ fn served(turns: Turns, answer: Answer) -> Turns
     Turns {
         left: left_after(turns.left, answer.number),
         served: turns.served + 1,
-        waited: larger(turns.waited, answer.rounds),
+        waited: turns.waited.max(answer.rounds),
         number: answer.number,
     }
 }
 
-// Gives a job its turns, each with the same budget. The record is in `kept` from the first turn to the last.
+// Gives a job its turns, each with the same budget. The record is in `kept` from the first turn to the last. The turns left are handed back
+// (`Turns`), and a slice can take all of them away: so the loop goes by them, and not by a range.
 pub fn run(job: Job, assoc: &[u8], text: &[u8], out: &mut [u8], budget: u32, turns: u32) -> Kept
     ensures { RunsTask scheme_of job assoc.now text.now out.old budget turns result out.new }
 {
@@ -67,7 +63,7 @@ pub fn run(job: Job, assoc: &[u8], text: &[u8], out: &mut [u8], budget: u32, tur
         left: turns,
         served: 0,
         waited: 0,
-        number: 100,
+        number: UNDER_WAY,
     };
     while 0 < seen.left {
         let answer = station::slice_kept(&mut kept, assoc, text, out, budget);

@@ -1,79 +1,64 @@
 // The line that a run prints.
+use crate::beginnings::Beginning;
 use crate::messages::Message;
+use crate::records;
 use crate::runs::{Left, Run};
-use crate::{records, runs};
-use case_file::strings::first;
-use case_file::tally::say;
-use std::io;
+use case_file::parts::first;
 use std::io::Write;
+use std::{fmt, io};
 use task::Kept;
 
-fn say_number(to: &mut impl Write, n: u32) -> io::Result<()> {
-    write!(to, "{n} ")
-}
-
-// What a line says before a run's answers.
+// A line without its output.
 #[derive(Clone, Copy)]
-pub struct Case {
-    pub instance: u32,
-    pub assoc: u32,
-    pub text: u32,
+pub struct Line<'a> {
+    pub name: &'a str,
+    pub beginning: Beginning,
     pub budget: u32,
     pub turns: u32,
+    pub kept: Kept,
+    // of the record that is kept
+    pub sum: u64,
 }
 
-pub fn say_case(to: &mut impl Write, job: &[u8], c: Case) -> io::Result<()> {
-    say_number(to, c.instance)?;
-    say(to, job)?;
-    say(to, b" ")?;
-    say_number(to, c.assoc)?;
-    say_number(to, c.text)?;
-    say_number(to, c.budget)?;
-    say_number(to, c.turns)
-}
-
-pub fn say_kept(to: &mut impl Write, kept: Kept) -> io::Result<()> {
-    let turns = kept.turns;
-    let job = kept.job;
-    say_number(to, turns.number)?;
-    say_number(to, turns.served)?;
-    say_number(to, turns.waited)?;
-    say_number(to, job.done)?;
-    let sum = records::sum(job);
-    write!(to, "{sum:016x} ")
-}
-
-fn wide(b: u8) -> u64 {
-    b as u64
+impl fmt::Display for Line<'_> {
+    fn fmt<W: fmt::Write>(&self, f: &mut fmt::Formatter<W>) -> fmt::Result {
+        let of = self.beginning;
+        let turns = self.kept.turns;
+        write!(f, "{} {} {} {} ", of.instance, self.name, of.assoc, of.text)?;
+        write!(f, "{} {} ", self.budget, self.turns)?;
+        write!(f, "{} {} {} ", turns.number, turns.served, turns.waited)?;
+        write!(f, "{} {:016x}", self.kept.job.done, self.sum)
+    }
 }
 
 // In hex, `-` for none.
-fn say_bytes(to: &mut impl Write, s: &[u8]) -> io::Result<()> {
-    if s.len() == 0 {
-        say(to, b"-")?;
+#[derive(Clone, Copy)]
+struct Output<'a>(&'a [u8]);
+
+impl fmt::Display for Output<'_> {
+    fn fmt<W: fmt::Write>(&self, f: &mut fmt::Formatter<W>) -> fmt::Result {
+        if self.0.is_empty() {
+            return f.write_str("-");
+        }
+        for byte in self.0 {
+            write!(f, "{byte:02x}")?;
+        }
+        Ok(())
     }
-    for b in s {
-        let n = wide(*b);
-        write!(to, "{n:02x}")?;
-    }
-    Ok(())
 }
 
 // Does a run, and says its line.
-pub fn said(to: &mut impl Write, job: &[u8], m: Message, run: Run) -> io::Result<Left> {
-    let left = runs::done(m, run);
-    let kept = left.kept;
-    let out = left.out;
-    let case = Case {
-        instance: m.instance,
-        assoc: m.assoc,
-        text: m.text,
+pub fn said(to: &mut impl Write, name: &str, message: Message, run: Run) -> io::Result<Left> {
+    let left = run.done(message);
+    let line = Line {
+        name,
+        beginning: message.beginning,
         budget: run.budget,
         turns: run.turns,
+        kept: left.kept,
+        sum: records::sum(left.kept.job)?,
     };
-    say_case(to, job, case)?;
-    say_kept(to, kept)?;
-    say_bytes(to, first(&out, run.out))?;
-    say(to, b"\n")?;
+    let out = Output(first(&left.out, run.out as usize));
+    writeln!(to, "{line} {out}")?;
     Ok(left)
 }

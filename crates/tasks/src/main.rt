@@ -3,36 +3,23 @@
 // second program (tests/second/src/tasks.rs) says what the lines must be.
 #![tactic(auto)]
 
+mod beginnings;
 mod images;
 mod lines;
 mod messages;
 mod records;
 mod runs;
 
-use case_file::tally::say;
+use beginnings::wrong;
 use isap::Job;
 use lines::said;
-use messages::{Message, filled};
-use runs::{Left, Run, done};
+use messages::Message;
+use runs::Run;
 use std::io;
 use std::io::Write;
 
 // More turns than a job of these messages has rounds.
 const ENOUGH: u32 = 20000;
-
-fn sealing(m: Message) -> Job {
-    let key = m.key;
-    let nonce = m.nonce;
-    let begun = isap::begin_seal(m.instance, &key, &nonce, m.assoc, m.text);
-    begun.job
-}
-
-fn opening(m: Message, tag: [u8; 16]) -> Job {
-    let key = m.key;
-    let nonce = m.nonce;
-    let begun = isap::begin_open(m.instance, &key, &nonce, &tag, m.assoc, m.text);
-    begun.job
-}
 
 // A run of a sealing's record, in any state, that is lent what the sealing needs.
 fn of_sealing(m: Message, job: Job, budget: u32, turns: u32) -> Run {
@@ -40,65 +27,53 @@ fn of_sealing(m: Message, job: Job, budget: u32, turns: u32) -> Run {
     Run {
         job,
         text,
-        out: m.text,
+        out: m.beginning.text,
         budget,
         turns,
     }
 }
 
 fn whole_sealing(m: Message, budget: u32) -> Run {
-    of_sealing(m, sealing(m), budget, ENOUGH)
+    of_sealing(m, m.beginning.sealing(), budget, ENOUGH)
 }
 
 fn of_opening(m: Message, cipher: [u8; 100], tag: [u8; 16], budget: u32) -> Run {
     Run {
-        job: opening(m, tag),
+        job: m.beginning.opening(tag),
         text: cipher,
-        out: m.text,
+        out: m.beginning.text,
         budget,
         turns: ENOUGH,
     }
 }
 
-// The same tag with one bit changed.
-fn wrong(tag: [u8; 16]) -> [u8; 16] {
-    let mut t = tag;
-    t[15] = t[15] ^ 1;
-    t
-}
-
-fn record_of(left: Left) -> Job {
-    let kept = left.kept;
-    kept.job
-}
-
 // Sealed, and the ciphertext opened with the tag that the sealing's record holds, and with a wrong one.
 fn to_the_end(to: &mut impl Write, m: Message, budget: u32) -> io::Result<()> {
-    let sealed = said(to, b"seal", m, whole_sealing(m, budget))?;
+    let sealed = said(to, "seal", m, whole_sealing(m, budget))?;
     let cipher = sealed.out;
-    let record = record_of(sealed);
-    let tag = record.tag;
-    said(to, b"open", m, of_opening(m, cipher, tag, budget))?;
-    said(to, b"wrong", m, of_opening(m, cipher, wrong(tag), budget))?;
+    let tag = sealed.kept.job.tag;
+    said(to, "open", m, of_opening(m, cipher, tag, budget))?;
+    said(to, "wrong", m, of_opening(m, cipher, wrong(tag), budget))?;
     Ok(())
 }
 
 fn by_every_budget(to: &mut impl Write, m: Message) -> io::Result<()> {
-    to_the_end(to, m, 1)?;
-    to_the_end(to, m, 25)?;
-    to_the_end(to, m, 1000)
+    for budget in [1, 25, 1000] {
+        to_the_end(to, m, budget)?;
+    }
+    Ok(())
 }
 
 // The record says one round done, and its place none.
 fn forged(m: Message) -> Job {
-    let mut job = sealing(m);
+    let mut job = m.beginning.sealing();
     job.done = 1;
     job
 }
 
 // One byte less than the 41 of the text.
 fn with_a_short_output(m: Message) -> Run {
-    let mut run = of_sealing(m, sealing(m), 25, 5);
+    let mut run = of_sealing(m, m.beginning.sealing(), 25, 5);
     run.out = 40;
     run
 }
@@ -126,45 +101,46 @@ fn one_too_few(instance: u32) -> u32 {
 
 // Runs that have too few turns, or whose first slice is refused.
 fn short_of_the_end(to: &mut impl Write, m: Message) -> io::Result<()> {
+    let instance = m.beginning.instance;
+    let fresh = m.beginning.sealing();
+    let ended = whole_sealing(m, 25).done(m).kept.job;
     said(
         to,
-        b"part",
+        "part",
         m,
-        of_sealing(m, sealing(m), 1, amid_the_text(m.instance)),
+        of_sealing(m, fresh, 1, amid_the_text(instance)),
     )?;
     said(
         to,
-        b"cut",
+        "cut",
         m,
-        of_sealing(m, sealing(m), 25, one_too_few(m.instance)),
+        of_sealing(m, fresh, 25, one_too_few(instance)),
     )?;
-    said(to, b"none", m, of_sealing(m, sealing(m), 0, 3))?;
-    said(to, b"idle", m, of_sealing(m, sealing(m), 25, 0))?;
-    let ended = record_of(done(m, whole_sealing(m, 25)));
-    said(to, b"again", m, of_sealing(m, ended, 25, 5))?;
-    said(to, b"forged", m, of_sealing(m, forged(m), 25, 5))?;
-    said(to, b"other", m, with_a_short_output(m))?;
+    said(to, "none", m, of_sealing(m, fresh, 0, 3))?;
+    said(to, "idle", m, of_sealing(m, fresh, 25, 0))?;
+    said(to, "again", m, of_sealing(m, ended, 25, 5))?;
+    said(to, "forged", m, of_sealing(m, forged(m), 25, 5))?;
+    said(to, "other", m, with_a_short_output(m))?;
     Ok(())
 }
 
 fn of_instance(to: &mut impl Write, instance: u32) -> io::Result<()> {
-    by_every_budget(to, filled(instance, 1, 0, 0))?;
-    by_every_budget(to, filled(instance, 2, 1, 8))?;
-    by_every_budget(to, filled(instance, 3, 20, 41))?;
-    by_every_budget(to, filled(instance, 4, 256, 100))?;
-    short_of_the_end(to, filled(instance, 3, 20, 41))?;
+    by_every_budget(to, Message::filled(instance, 1, 0, 0))?;
+    by_every_budget(to, Message::filled(instance, 2, 1, 8))?;
+    by_every_budget(to, Message::filled(instance, 3, 20, 41))?;
+    by_every_budget(to, Message::filled(instance, 4, 256, 100))?;
+    short_of_the_end(to, Message::filled(instance, 3, 20, 41))?;
     images::of_instance(to, instance)
 }
 
 fn main(rt: HostRuntime) -> io::Result<()> {
     let to = &mut rt.stdout();
-    say(
+    writeln!(
         to,
-        b"instance job assoc text budget turns number served waited done record out\n",
+        "instance job assoc text budget turns number served waited done record out"
     )?;
-    of_instance(to, 1)?;
-    of_instance(to, 2)?;
-    of_instance(to, 3)?;
-    of_instance(to, 4)?;
-    of_instance(to, 5)
+    for instance in 1..6 {
+        of_instance(to, instance)?;
+    }
+    Ok(())
 }

@@ -1,6 +1,6 @@
 // Runs of the task.
 use crate::messages::Message;
-use case_file::strings::{first, within};
+use case_file::parts::{first, within};
 use isap::Job;
 use task::Kept;
 
@@ -21,19 +21,18 @@ pub struct Left {
     pub out: [u8; 100],
 }
 
-pub fn done(m: Message, run: Run) -> Left {
-    let data = m.data;
-    let text = run.text;
-    let job = run.job;
-    let mut out = m.before;
-    let n = within(&out, run.out);
-    let kept = task::run(
-        job,
-        first(&data, m.assoc),
-        first(&text, m.text),
-        &mut out[..n],
-        run.budget,
-        run.turns,
-    );
-    Left { kept, out }
+impl Run {
+    pub fn done(self, message: Message) -> Left {
+        let mut out = message.before;
+        let n = within(&out, self.out as usize);
+        let kept = task::run(
+            self.job,
+            first(&message.data, message.beginning.assoc as usize),
+            first(&self.text, message.beginning.text as usize),
+            &mut out[..n],
+            self.budget,
+            self.turns,
+        );
+        Left { kept, out }
+    }
 }

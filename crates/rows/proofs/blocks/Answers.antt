@@ -1,6 +1,6 @@
 -- `rows::blocks` meets its contract: the engine's row is the instance's (`blocks_as`).
 -- Assumes nothing.
-use Rattle.std.proofs.Common.{ap₂, arith, length, subst, sym, ℕ, ◌*◌, ◌+◌, ◌-◌, ◌∙◌, ◌≤◌}
+use Rattle.std.proofs.Common.{arith, length, subst, sym, ℕ, ◌*◌, ◌+◌, ◌∙◌, ◌≤◌}
 use Rattle.sponge.specs.Engines.{runs_ascon, runs_keccak}
 use Rattle.rows.proofs.Engines.{blocks_as}
 use Rattle.rows.proofs.blocks.Goals as goal
@@ -13,11 +13,10 @@ blocks-requires c =
 
 pub returns-then-on_ascon : goal.returns-then-on_ascon
 returns-then-on_ascon c =
-    let n = c.numbers_of-q in
-    let q = n.ensures in
+    let q = c.numbers_of-q.ensures in
     let a = c.args in
     let e = runs_ascon a.instance (sym c.on_ascon.ensures ∙ c.if-on_ascon.true) in
-    c.blocks-then-on_ascon.ensures ∙ blocks_as e _ _ _ (ap₂ (λ (x y : ℕ). x - y) q.most q.sh) q.sh a.src.now a.first a.calls a.state
+    c.blocks-then-on_ascon.ensures ∙ blocks_as e _ _ _ q.most q.sh a.src.now a.first a.calls a.state
 
 pub blocks-requires-2 : goal.blocks-requires-2
 blocks-requires-2 c =
@@ -27,8 +26,7 @@ blocks-requires-2 c =
 
 pub returns : goal.returns
 returns c =
-    let n = c.numbers_of-q in
-    let q = n.ensures in
+    let q = c.numbers_of-q.ensures in
     let a = c.args in
     let e = runs_keccak a.instance (sym c.on_ascon.ensures ∙ c.if-on_ascon.false) in
-    c.blocks-2.ensures ∙ blocks_as e _ _ _ (ap₂ (λ (x y : ℕ). x - y) q.most q.sh) q.sh a.src.now a.first a.calls a.state
+    c.blocks-2.ensures ∙ blocks_as e _ _ _ q.most q.sh a.src.now a.first a.calls a.state

@@ -9,4 +9,4 @@ use Rattle.shadow.proofs.marked.Goals as goal
 pub returns : goal.returns
 returns c =
     let a = c.args in
-    c.plus.ensures ∙ ap (λ (k : Rows). add k a.s) (ap (cut a.b) c.constant-w.ensures ∙ cut-shifted a.r a.b c.requires.1)
+    c.bitxor.ensures ∙ ap (λ (k : Rows). add k a.s) (ap (cut a.b) c.constant-w.ensures ∙ cut-shifted a.r a.b c.requires.1)

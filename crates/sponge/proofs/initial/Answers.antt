@@ -15,5 +15,6 @@ returns c =
     let n = (params_of instance).n in
     let q = c.numbers_of-q.result in
     let e = c.numbers_of-q.ensures in
-    value-front n flag 128 (8 * q.b) 1 q.sh q.sb q.se q.sk (lawful_instance instance).room (omega (arith, e.n))
-    ∙ (λ i. flag ∷ 128 ∷ 8 * e.b i ∷ 1 ∷ e.sh i ∷ e.sb i ∷ e.se i ∷ e.sk i ∷ replicate (n - 24) 0)
+    rw c.copy_from_slice.ensures.after
+    (value-front n flag 128 (8 * q.b) 1 q.sh q.sb q.se q.sk (lawful_instance instance).room (omega (arith, e.n))
+    ∙ (λ i. flag ∷ 128 ∷ 8 * e.b i ∷ 1 ∷ e.sh i ∷ e.sb i ∷ e.se i ∷ e.sk i ∷ replicate (n - 24) 0))

@@ -5,4 +5,4 @@ use Rattle.mode.specs.InstanceLaws.{lawful_instance}
 use Rattle.sponge.proofs.state_bytes.Goals as goal
 
 pub returns : goal.returns
-returns c = let l = (lawful_instance c.args.instance).room in let e = c.numbers_of-q.ensures in (e.n, omega arith, omega arith)
+returns c = let l = (lawful_instance c.args.instance).room in let e = c.numbers_of.ensures in (e.n, omega arith, omega arith)

@@ -3,7 +3,7 @@ use Rattle.strings.proofs.Agreeing.{Agree, agree_more, agree-front}
 use Rattle.strings.proofs.same_front.Goals as goal
 
 pub loop-i-preserved : goal.loop-i-preserved
-loop-i-preserved c = (omega arith, agree_more c.loop-i.invariant.1)
+loop-i-preserved c = agree_more c.loop-i.invariant
 
 pub returns : goal.returns
 returns c =
@@ -13,5 +13,5 @@ returns c =
     let long : length a.sixteen ≡ 16 = search rules in
     let state-long : length a.state ≡ 64 = search rules in
     let e : l.i ≡ length a.state = omega arith in
-    agree-front 16 a.sixteen a.state put.result l.d long (omega arith) put.ensures
-    (subst (λ (k : ℕ). Agree put.result a.state k l.d) e l.invariant.1)
+    agree-front 16 a.sixteen a.state put.result l.differing long (omega arith) put.ensures
+    (subst (λ (k : ℕ). Agree put.result a.state k l.differing) e l.invariant)

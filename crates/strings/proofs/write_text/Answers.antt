@@ -18,7 +18,7 @@ returns-then-text-a c =
 
 pub returns : goal.returns
 returns c =
-    let e = c.smaller-e in
+    let e = c.min-e in
     let a = c.args in
     let long : length a.state ≡ 64 = search rules in
     wrote a.i a.b e.result c.write_block.new.out a.text.now a.state a.out.now

@@ -1,6 +1,7 @@
 -- `calls::of_isap::rounds` meets its contract.
 -- Assumes nothing.
 use Rattle.std.proofs.Common.{arith}
+use Rattle.plan.specs.KindNumbers.{kind_number, kind_number-below}
 use Rattle.calls.proofs.IsapParts.{of_eleven, within, under, turns_by}
 use Rattle.calls.proofs.of_isap.rounds.Goals as goal
 
@@ -13,8 +14,8 @@ index_of-from-requires c =
     let k = c.kind_of-kind in
     let a = c.args in
     let h = of_eleven a.instance a.sealing a.at.part c.requires.a c.requires.m c.requires.is_part in
-    let w = within a.instance a.sealing a.at.part k.result k.ensures.0 h r.result r.ensures.0 a.at.round a.count c.requires in
-    (under a.instance a.sealing a.at.part k.result k.ensures.0 h r.result r.ensures.0 a.at.round a.count k.ensures.1, omega (arith, w))
+    let w = within a.instance a.sealing a.at.part (kind_number k.result) k.ensures h r.result r.ensures.0 a.at.round a.count c.requires in
+    (under a.instance a.sealing a.at.part (kind_number k.result) k.ensures h r.result r.ensures.0 a.at.round a.count (kind_number-below k.result), omega (arith, w))
 
 pub permute-requires : goal.permute-requires
 permute-requires c =
@@ -22,8 +23,8 @@ permute-requires c =
     let k = c.kind_of-kind in
     let a = c.args in
     let h = of_eleven a.instance a.sealing a.at.part c.requires.a c.requires.m c.requires.is_part in
-    let w = within a.instance a.sealing a.at.part k.result k.ensures.0 h r.result r.ensures.0 a.at.round a.count c.requires in
-    let u = under a.instance a.sealing a.at.part k.result k.ensures.0 h r.result r.ensures.0 a.at.round a.count k.ensures.1 in
+    let w = within a.instance a.sealing a.at.part (kind_number k.result) k.ensures h r.result r.ensures.0 a.at.round a.count c.requires in
+    let u = under a.instance a.sealing a.at.part (kind_number k.result) k.ensures h r.result r.ensures.0 a.at.round a.count (kind_number-below k.result) in
     omega (arith, w, u, c.index_of-from.ensures)
 
 pub returns : goal.returns
@@ -33,5 +34,5 @@ returns c key session =
     let k = c.kind_of-kind in
     let a = c.args in
     let h = of_eleven a.instance a.sealing a.at.part c.requires.a c.requires.m c.requires.is_part in
-    turns_by a.instance a.sealing a.at.part k.result k.ensures.0 h r.result i.result a.at.round a.count k.ensures.1 r.ensures.0 i.ensures
+    turns_by a.instance a.sealing a.at.part (kind_number k.result) k.ensures h r.result i.result a.at.round a.count (kind_number-below k.result) r.ensures.0 i.ensures
     key a.state session c.permute.result c.permute.ensures

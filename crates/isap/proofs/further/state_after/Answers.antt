@@ -8,4 +8,4 @@ pub go-requires : goal.go-requires
 go-requires c =
     let a = c.args in
     let h = c.requires.0 in
-    (inner a.job a.assoc.now a.text.now a.out.now h a.calls c.requires.1.row, c.requires.1.is_many, h.out_long ∙ sym h.text_long)
+    rw c.sealing.ensures (inner a.job a.assoc.now a.text.now a.out.now h a.calls c.requires.1.row, c.requires.1.is_many, h.out_long ∙ sym h.text_long)

@@ -12,4 +12,4 @@ returns-then-at-ne0 c =
 pub returns : goal.returns
 returns c =
     let a = c.args in
-    meets-first scheme_of a.job a.assoc.now a.text.now a.out.now c.enter.result.state c.enter.result.session c.if-at-ne0.false c.enter.ensures
+    meets-first scheme_of a.job a.assoc.now a.text.now a.out.now c.enter.result.state c.enter.result.session c.if-at-ne0.false (rw c.sealing.ensures at c.enter.ensures)

@@ -13,4 +13,4 @@ pub returns : goal.returns
 returns c =
     let l = c.leave in
     let a = c.args in
-    rw c.if-not-last.false (left_last scheme_of a.job a.assoc.now a.text.now a.out.now a.state _ l.result l.ensures)
+    rw c.if-not-last.false (left_last scheme_of a.job a.assoc.now a.text.now a.out.now a.state _ l.result (rw c.sealing.ensures at l.ensures))

@@ -1,10 +1,9 @@
-use Rattle.std.proofs.Common.{ap, arith, suc, sym, ℕ, ◌+◌, ◌-◌, ◌<◌, ◌∙◌, ◌≡◌, ◌≤◌}
+use Rattle.std.proofs.Common.{ap, arith, suc, sym, ℕ, ◌+◌, ◌-◌, ◌∙◌, ◌≡◌}
 use Rattle.bits.specs.Number.{number}
 use Rattle.keccak.specs.Ahead.{ahead, earlier}
 use Rattle.keccak.specs.Fips202.{start, shifted, register, rc}
 use Rattle.keccak.proofs.AheadLaws.{earlier-ahead}
 use Rattle.keccak.proofs.iota.start.Goals as goal
-use Rattle.keccak.proofs.iota.start.Goals.{then-left-lt3, else-left-lt3}
 
 pub loop-left-init : goal.loop-left-init
 unfolding ahead number rc register shifted start
@@ -14,16 +13,14 @@ loop-left-init c =
 
 pub loop-left-preserved : goal.loop-left-preserved
 loop-left-preserved c =
-    let n = c.if-left-lt3.n in
-    let some : (0 < n) × (n < 4) × (n ≤ c.loop-left.left) =
-    elim c.if-left-lt3.branch [ then-left-lt3 w ↦ (omega arith, omega arith, omega arith) | else-left-lt3 w ↦ (omega arith, omega arith, omega arith) ] in
+    let n = c.min-n.result in
     let i = c.args.i in
     let inv = c.loop-left.invariant in
     let j : ℕ = i + (c.loop-left.left - n) in
     let m : ℕ = n - 1 in
-    let one : n ≡ suc m = omega arith in
-    let from : i + c.loop-left.left ≡ j + suc m = omega arith in (
-      omega arith,
+    let one : n ≡ suc m = omega (arith, c.min-n.ensures) in
+    let from : i + c.loop-left.left ≡ j + suc m = omega (arith, c.min-n.ensures) in (
+      omega (arith, c.min-n.ensures),
       c.earlier-w.ensures ∙ (λ k. earlier (one k) (inv.1 k)) ∙ ap (λ (v : ℕ). earlier (suc m) (ahead v)) from
-          ∙ earlier-ahead m j (omega arith) (omega arith),
+          ∙ earlier-ahead m j (omega (arith, c.min-n.ensures)) (omega (arith, c.min-n.ensures)),
     )

@@ -1,9 +1,7 @@
--- `read_line` ends: each turn leaves less of the line to fill. What was read stands within it.
-use Rattle.std.proofs.Common.{◌≡◌, ◌-◌, ◌≤◌, length}
+-- `read_line` ends: each turn leaves less room in the line.
+use Rattle.std.proofs.Common.{◌-◌}
+use Rattle.arrayvec.specs.ArrayVec.{array_vec_len}
 use Rattle.known.proofs.lines.read_line.Given as goal
 
-abbrev pub invariant-loop-n : goal.invariant-loop-n
-invariant-loop-n g l = (length l.line ≡ length l.initial.line) × (l.n ≤ length l.line)
-
-abbrev pub decreases-loop-n : goal.decreases-loop-n
-decreases-loop-n g l = length l.line - l.n
+abbrev pub decreases-loop-input : goal.decreases-loop-input
+decreases-loop-input g l = g.row.N - array_vec_len l.line

@@ -7,6 +7,7 @@ use Rattle.parcel.specs.Building.{refusal, next_fields, built_of, built_out, Put
 use Rattle.parcel.specs.Statements.{Builds}
 use Rattle.parcel.specs.Fits.{can_build}
 use Rattle.parcel.specs.Refused.{building_refused}
+use Rattle.parcel.proofs.Numbers.{some_number}
 use Rattle.parcel.proofs.building.build.Goals as goal
 
 module _ (instance : ℕ) (key : List ℕ) (station last : ℕ) (text out : List ℕ) where
@@ -23,30 +24,31 @@ module _ (instance : ℕ) (key : List ℕ) (station last : ℕ) (text out : List
       let yes = eq-eqb (refusal scheme_of instance key station last text out) 0 none in
       (ap (λ (q : Answer). record { number = q.number; rounds = q.rounds; counter = last + 1 }) h.0 ∙ rw yes, h.1 ∙ rw yes)
 
-pub returns-then-refusal-ne0 : goal.returns-then-refusal-ne0
-returns-then-refusal-ne0 c =
+pub returns-in-Err : goal.returns-in-Err
+returns-in-Err c =
     let a = c.args in
-    refused a.instance a.key.now a.station a.last a.text.now a.out.now c.build_refusal-refusal.result c.build_refusal-refusal.ensures c.if-refusal-ne0.true
+    let n = c.number.ensures in
+    refused a.instance a.key.now a.station a.last a.text.now a.out.now c.number.result (n ∙ c.in-Err.ensures) (λ z. some_number c.in-Err.refusal (sym n ∙ z))
 
 pub overflow_add-counter : goal.overflow_add-counter
 overflow_add-counter c =
     let a = c.args in
-    let can = can_build scheme_of a.instance (length a.key.now) (length a.text.now) (length a.out.now) a.last (sym c.build_refusal-refusal.ensures ∙ c.if-refusal-ne0.false) in
+    let can = can_build scheme_of a.instance (length a.key.now) (length a.text.now) (length a.out.now) a.last (sym c.in_default.ensures) in
     record { fits = omega (arith, can.1) }
 
 pub overflow_cast-fields : goal.overflow_cast-fields
 overflow_cast-fields c =
     let a = c.args in
-    let can = can_build scheme_of a.instance (length a.key.now) (length a.text.now) (length a.out.now) a.last (sym c.build_refusal-refusal.ensures ∙ c.if-refusal-ne0.false) in
+    let can = can_build scheme_of a.instance (length a.key.now) (length a.text.now) (length a.out.now) a.last (sym c.in_default.ensures) in
     record { fits = omega (arith, can.0.text_limit) }
 
 pub put_parcel-sealed-requires : goal.put_parcel-sealed-requires
 put_parcel-sealed-requires c =
     let a = c.args in
-    (can_build scheme_of a.instance (length a.key.now) (length a.text.now) (length a.out.now) a.last (sym c.build_refusal-refusal.ensures ∙ c.if-refusal-ne0.false)).0
+    (can_build scheme_of a.instance (length a.key.now) (length a.text.now) (length a.out.now) a.last (sym c.in_default.ensures)).0
 
 pub returns : goal.returns
 returns c =
     let a = c.args in
-    built a.instance a.key.now a.station a.last a.text.now a.out.now (sym c.build_refusal-refusal.ensures ∙ c.if-refusal-ne0.false)
+    built a.instance a.key.now a.station a.last a.text.now a.out.now (sym c.in_default.ensures)
     c.put_parcel-sealed.result c.put_parcel-sealed.new.out c.put_parcel-sealed.ensures

@@ -5,4 +5,4 @@ use Rattle.parcel.specs.Wholes.{body_there}
 use Rattle.parcel.proofs.reader.cipher.Goals as goal
 
 pub slice_bounds-result-end-2 : goal.slice_bounds-result-end-2
-slice_bounds-result-end-2 c = omega (arith, body_there c.args.parcel.now c.in-Whole.fields (sym c.read.ensures ∙ c.in-Whole.is))
+slice_bounds-result-end-2 c = omega (arith, body_there c.args.parcel.now c.in-Ok.fields (sym c.read.ensures ∙ c.in-Ok.is))

@@ -1,39 +1,27 @@
--- `parcel::reader::fields_in` meets its contract: four numbers, each below what its bytes can hold.
+-- `parcel::reader::fields_in` meets its contract: a byte, and three numbers of the library's byte order.
 -- Assumes nothing.
-use Rattle.std.proofs.Common.{List, arith, drop, length, subst, sym, take, ℕ, ◌+◌, ◌<◌, ◌^◌, ◌≡◌, ◌≤◌}
-use Rattle.bits.specs.Bytes.{Bytes, bytes_take, bytes_drop}
-use Rattle.bits.specs.BigEndian.{from_be, from_be_lt}
-use Rattle.bits.specs.Part.{length_part}
+use Rattle.std.proofs.Common.{[], ap, arith, drop, sym, take, w16, w64, ℕ, ◌∙◌, ◌∷◌, ◌≡◌}
+use Rattle.std.specs.Int.{from_be_bytes}
+use Rattle.std.proofs.lemmas.Result.{MatchResult-at_ok}
+use Rattle.bits.specs.BigEndian.{from_be}
+use Rattle.bits.specs.Library.{from_be_bytes_lem}
+use Rattle.bits.specs.Part.{part-elems, length_part}
 use Rattle.parcel.specs.Reading.{fields_in}
 use Rattle.parcel.proofs.reader.fields_in.Goals as goal
 
--- a number of so many bytes
-small : (p : List ℕ) (at count n : ℕ) → Bytes p → at + count ≤ length p → n ≡ from_be (take count (drop at p)) → n < 256 ^ count
-small p at count n b h e =
-    subst (λ (k : ℕ). n < 256 ^ k) (length_part p at count h)
-    (subst (λ (k : ℕ). k < 256 ^ length (take count (drop at p))) (sym e) (from_be_lt (take count (drop at p)) (bytes_take count (bytes_drop at b))))
-
-pub overflow_cast-result : goal.overflow_cast-result
-overflow_cast-result c =
-    let p = c.args.parcel.now in
-    record { fits = omega (arith, small p 2 1 c.number_at.result (record { each = λ i. (c.type_inv.parcel i).fits }) (omega arith) c.number_at.ensures) }
-
-pub overflow_cast-result-2 : goal.overflow_cast-result-2
-overflow_cast-result-2 c =
-    let p = c.args.parcel.now in
-    record { fits = omega (arith, small p 3 2 c.number_at-2.result (record { each = λ i. (c.type_inv.parcel i).fits }) (omega arith) c.number_at-2.ensures) }
-
-pub overflow_cast-result-3 : goal.overflow_cast-result-3
-overflow_cast-result-3 c =
-    let p = c.args.parcel.now in
-    record { fits = omega (arith, small p 13 2 c.number_at-4.result (record { each = λ i. (c.type_inv.parcel i).fits }) (omega arith) c.number_at-4.ensures) }
+one_byte : (b : ℕ) → b ≡ from_be (b ∷ [])
+unfolding from_be
+one_byte b = omega arith
 
 pub returns : goal.returns
 unfolding fields_in
-returns c = λ i.
-    record {
-      instance = c.number_at.ensures i;
-      station = c.number_at-2.ensures i;
-      counter = c.number_at-3.ensures i;
-      text = c.number_at-4.ensures i;
-    }
+returns c =
+    let p = c.args.parcel.now in
+    let station = MatchResult-at_ok _ _ _ c.unwrap.ensures c.try_into.ensures.1 in
+    let counter = MatchResult-at_ok _ _ _ c.unwrap-2.ensures c.try_into-2.ensures.1 in
+    let text = MatchResult-at_ok _ _ _ c.unwrap-3.ensures c.try_into-3.ensures.1 in
+    let e0 = c.from.ensures ∙ one_byte _ ∙ ap from_be (sym (part-elems p 2 0 (omega arith))) in
+    let e1 = c.from_be_bytes.ensures ∙ ap (from_be_bytes w16) station.same ∙ from_be_bytes_lem w16 (take 2 (drop 3 p)) (length_part p 3 2 (omega arith)) in
+    let e2 = c.from_be_bytes-2.ensures ∙ ap (from_be_bytes w64) counter.same ∙ from_be_bytes_lem w64 (take 8 (drop 5 p)) (length_part p 5 8 (omega arith)) in
+    let e3 = c.from-2.ensures ∙ c.from_be_bytes-3.ensures ∙ ap (from_be_bytes w16) text.same ∙ from_be_bytes_lem w16 (take 2 (drop 13 p)) (length_part p 13 2 (omega arith)) in
+    λ i. record { instance = e0 i; station = e1 i; counter = e2 i; text = e3 i }

@@ -12,27 +12,26 @@ all_of i s a m parts e = e ∙ sym ((lawful-scheme i).fixed s a m)
 pub returns-then-left-cells : goal.returns-then-left-cells
 returns-then-left-cells c =
     let a = c.args in
-    let all = all_of a.instance a.sealing a.a a.m c.parts_of-parts.result c.parts_of-parts.ensures.0 in
+    let all = all_of a.outline.instance a.outline.sealing a.outline.assoc a.outline.text c.parts_of-parts.result c.parts_of-parts.ensures.0 in
     ap placed
     (sym
-    (found (all_shapes (scheme_of a.instance) a.sealing a.a a.m) a.n c.loop-part.part c.loop-part.left c.count_at.result c.rounds_at-rounds.result
-    (omega (arith, all)) c.loop-part.invariant.1 c.count_at.ensures.0 (c.rounds_at-rounds.ensures.0 a.a a.m) c.if-left-cells.true))
+    (found (all_shapes (scheme_of a.outline.instance) a.outline.sealing a.outline.assoc a.outline.text) a.n c.loop-part.part c.loop-part.left c.count_at.result c.rounds_at-rounds.result
+    (omega (arith, all)) c.loop-part.invariant c.count_at.ensures.0 (c.rounds_at-rounds.ensures.0 a.outline.assoc a.outline.text) c.if-left-cells.true))
 
 pub loop-part-preserved : goal.loop-part-preserved
 loop-part-preserved c =
     let a = c.args in
-    let all = all_of a.instance a.sealing a.a a.m c.parts_of-parts.result c.parts_of-parts.ensures.0 in (
-      omega arith,
-      passed (all_shapes (scheme_of a.instance) a.sealing a.a a.m) a.n c.loop-part.part c.loop-part.left c.count_at.result c.rounds_at-rounds.result
-          (omega (arith, all)) c.loop-part.invariant.1 c.count_at.ensures.0 (c.rounds_at-rounds.ensures.0 a.a a.m) c.if-left-cells.false,
-    )
+    let all = all_of a.outline.instance a.outline.sealing a.outline.assoc a.outline.text c.parts_of-parts.result c.parts_of-parts.ensures.0 in
+    passed (all_shapes (scheme_of a.outline.instance) a.outline.sealing a.outline.assoc a.outline.text) a.n c.loop-part.part c.loop-part.left c.count_at.result c.rounds_at-rounds.result
+    (omega (arith, all)) c.loop-part.invariant c.count_at.ensures.0 (c.rounds_at-rounds.ensures.0 a.outline.assoc a.outline.text) c.if-left-cells.false
 
 pub returns : goal.returns
 returns c =
     let a = c.args in
-    let hs = all_shapes (scheme_of a.instance) a.sealing a.a a.m in
+    let hs = all_shapes (scheme_of a.outline.instance) a.outline.sealing a.outline.assoc a.outline.text in
     let end : c.loop-part.part ≡ c.parts_of-parts.result = omega arith in
-    ap placed
+    c.start_of.ensures
+    ∙ ap placed
     (sym
-    (left_none hs a.n c.parts_of-parts.result c.loop-part.left (all_of a.instance a.sealing a.a a.m c.parts_of-parts.result c.parts_of-parts.ensures.0)
-    (subst (λ (j : ℕ). Left hs a.n j c.loop-part.left) end c.loop-part.invariant.1)))
+    (left_none hs a.n c.parts_of-parts.result c.loop-part.left (all_of a.outline.instance a.outline.sealing a.outline.assoc a.outline.text c.parts_of-parts.result c.parts_of-parts.ensures.0)
+    (subst (λ (j : ℕ). Left hs a.n j c.loop-part.left) end c.loop-part.invariant)))

@@ -3,6 +3,7 @@
 use Rattle.std.proofs.Common.{ap, arith, false, sym, true, ◌∙◌, ◌≡◌}
 use Rattle.stopping.specs.Parts.{Shape}
 use Rattle.instances.specs.Schemes.{is_spook}
+use Rattle.plan.specs.KindNumbers.{kind_number}
 use Rattle.plan.proofs.ByScheme.{spook-parts, isap_parts, spook-shape, isap_shape}
 use Rattle.plan.proofs.shapes.rounds_at.Goals as goal
 
@@ -28,7 +29,7 @@ returns c =
     let e : is_spook a.instance ≡ false = sym c.is_spook.ensures ∙ c.if-is_spook.false in
     let h = isap_parts a.instance a.sealing e in (
       (λ x y. c.rounds_of.ensures.0 x y
-          ∙ ap Shape.rounds (isap_shape a.instance a.sealing x y a.part e (omega (arith, c.requires, h)) k.result k.ensures.0)),
+          ∙ ap Shape.rounds (isap_shape a.instance a.sealing x y a.part e (omega (arith, c.requires, h)) (kind_number k.result) k.ensures)),
       c.rounds_of.ensures.1,
       c.rounds_of.ensures.2,
     )

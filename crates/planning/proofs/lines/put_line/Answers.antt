@@ -1,5 +1,5 @@
 -- The line put at the start is what the buffer then begins with.
-use Rattle.std.proofs.Common.{◌∙◌, rules}
+use Rattle.std.proofs.Common.{◌∙◌, ℕ, ap₂, get_or, rules}
 use Rattle.planning.specs.Lines.{line, answer}
 use Rattle.planning.specs.PutLaws.{put-start}
 use Rattle.planning.proofs.lines.put_line.Goals as goal
@@ -8,4 +8,4 @@ pub returns-clause-out_after : goal.returns-clause-out_after
 unfolding answer
 returns-clause-out_after c =
     let p = put-start c.put_plan.ensures (search rules) in
-    p.2 ∙ (λ j. line (c.wide-i.ensures.0 j) (c.pair-a.ensures.0 j) (c.pair-m.ensures.0 j))
+    p.2 ∙ ap₂ (λ (a m : ℕ). line (get_or c.args.request 0 0) a m) c.pair.ensures c.pair-2.ensures

@@ -15,6 +15,6 @@ returns-then-at-text c =
     let at = a.i * 32 in
     let x = take 32 (drop at a.text.now) in
     let room : at + 32 ≤ length a.text.now = search rules in
-    let long : length (xors (bundle_bytes a.x) x) ≡ 32 = length-xors (bundle_bytes a.x) x ∙ omega (arith, (bundles_are a.x).long, length_part a.text.now at 32 room) in
+    let long : length (xors (bundle_bytes a.bundles) x) ≡ 32 = length-xors (bundle_bytes a.bundles) x ∙ omega (arith, (bundles_are a.bundles).long, length_part a.text.now at 32 room) in
     c.write_xored.ensures
-    ∙ ap (λ (n : ℕ). take at a.out.now ++ (xors (bundle_bytes a.x) x ++ drop (at + n) a.out.now)) (sym long)
+    ∙ ap (λ (n : ℕ). take at a.out.now ++ (xors (bundle_bytes a.bundles) x ++ drop (at + n) a.out.now)) (sym long)
