@@ -1,4 +1,4 @@
--- The sequence of a seed: what the contracts of fillings and checksums cite.
+-- The sequence of a seed: what the contracts of fillings cite.
 -- Assumes nothing.
 use Rattle.std.specs.Prelude.{List, [], ◌∷◌, ◌++◌, ℕ, zero, suc, ◌*◌, ◌/◌, ◌%◌, ◌^◌, bit_xor}
 

@@ -43,7 +43,7 @@ pub fn case(input: &mut impl Read, sliced: bool) -> io::Result<Outcome> {
     };
     let number = u32::from(reading::byte(input)?);
     let record = reading::bytes(input)?;
-    let as_recorded = is_record(&begun.job, &record)?;
+    let as_recorded = is_record(&begun.job, &record);
     let verdict = answered(answer, Answer { number, rounds: 0 }, 0).or(unless(
         as_recorded,
         What::Record,

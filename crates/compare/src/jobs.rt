@@ -98,7 +98,7 @@ impl Course {
         changes(input, &mut self.written, false)?;
         let answer = self.slice(cut);
         let call = self.outcome.slices.wrapping_add(1);
-        let as_recorded = is_record(&self.job, &self.record)?;
+        let as_recorded = is_record(&self.job, &self.record);
         let verdict = self
             .outcome
             .verdict
@@ -125,6 +125,6 @@ impl Course {
 pub fn forged(input: &mut impl Read) -> io::Result<Outcome> {
     let room = Room::filled(reading::eight(input)?);
     let record = reading::bytes(input)?;
-    let job = records::record(&record)?;
+    let job = records::record(&record);
     Course::new(job, record, room, Outcome::from(None)).run(input)
 }

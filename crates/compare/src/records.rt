@@ -1,30 +1,37 @@
 // A record from its 212 bytes in the case file, and two records compared.
-use case_file::reading::{bytes, four};
+ghost use Rattle.std.specs.Prelude.{◌+◌, ◌≤◌};
+
 use isap::Job;
 use plan::Place;
-use std::io;
 
-// Four numbers, key, nonce and tag, five numbers, state and session.
-pub fn record(s: &[u8; 212]) -> io::Result<Job> {
-    let rest = &mut &s[..];
-    Ok(Job {
-        instance: four(rest)?,
-        direction: four(rest)?,
-        assoc: four(rest)?,
-        text: four(rest)?,
-        key: bytes(rest)?,
-        nonce: bytes(rest)?,
-        tag: bytes(rest)?,
-        done: four(rest)?,
+fn part<const N: usize>(s: &[u8; 212], at: usize) -> [u8; N]
+    requires { at + N ≤ 212 }
+{
+    let mut bytes = [0u8; N];
+    bytes.copy_from_slice(&s[at..at + N]);
+    bytes
+}
+
+// Four numbers, the most significant byte of each first, key, nonce and tag, five numbers, state and session.
+pub fn record(s: &[u8; 212]) -> Job {
+    Job {
+        instance: u32::from_be_bytes(part(s, 0)),
+        direction: u32::from_be_bytes(part(s, 4)),
+        assoc: u32::from_be_bytes(part(s, 8)),
+        text: u32::from_be_bytes(part(s, 12)),
+        key: part(s, 16),
+        nonce: part(s, 32),
+        tag: part(s, 48),
+        done: u32::from_be_bytes(part(s, 64)),
         place: Place {
-            part: four(rest)?,
-            call: four(rest)?,
-            round: four(rest)?,
+            part: u32::from_be_bytes(part(s, 68)),
+            call: u32::from_be_bytes(part(s, 72)),
+            round: u32::from_be_bytes(part(s, 76)),
         },
-        ending: four(rest)?,
-        state: bytes(rest)?,
-        session: bytes(rest)?,
-    })
+        ending: u32::from_be_bytes(part(s, 80)),
+        state: part(s, 84),
+        session: part(s, 148),
+    }
 }
 
 fn numbers(job: &Job) -> [u32; 9] {
@@ -42,14 +49,12 @@ fn numbers(job: &Job) -> [u32; 9] {
 }
 
 // Every field of a record is what the case file has. A job has no `==` of its own: the library compares no secret with an early exit.
-pub fn is_record(job: &Job, s: &[u8; 212]) -> io::Result<bool> {
-    let expected = record(s)?;
-    Ok(
-        numbers(job) == numbers(&expected)
-            && job.key == expected.key
-            && job.nonce == expected.nonce
-            && job.tag == expected.tag
-            && job.state == expected.state
-            && job.session == expected.session,
-    )
+pub fn is_record(job: &Job, s: &[u8; 212]) -> bool {
+    let expected = record(s);
+    numbers(job) == numbers(&expected)
+        && job.key == expected.key
+        && job.nonce == expected.nonce
+        && job.tag == expected.tag
+        && job.state == expected.state
+        && job.session == expected.session
 }

@@ -71,7 +71,7 @@ impl Given {
             budget: BUDGET,
             turns,
             kept,
-            sum: records::sum(kept.job)?,
+            sum: records::sum(kept.job),
         };
         let sum = checksum(out);
         writeln!(to, "{line} {sum:016x}")?;

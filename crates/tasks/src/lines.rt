@@ -56,7 +56,7 @@ pub fn said(to: &mut impl Write, name: &str, message: Message, run: Run) -> io::
         budget: run.budget,
         turns: run.turns,
         kept: left.kept,
-        sum: records::sum(left.kept.job)?,
+        sum: records::sum(left.kept.job),
     };
     let out = Output(first(&left.out, run.out as usize));
     writeln!(to, "{line} {out}")?;

@@ -1,34 +1,46 @@
 // The checksum of a record: of its 212 bytes, which crates/compare reads from a case file in the same order.
+ghost use Rattle.std.specs.Prelude.{◌+◌, ◌*◌, ◌≤◌, length};
+
 use case_file::filling::checksum;
 use isap::Job;
-use std::io;
-use std::io::Write;
+
+fn put(record: &mut [u8; 212], at: usize, bytes: &[u8])
+    requires { at + length bytes.now ≤ 212 }
+{
+    record[at..at + bytes.len()].copy_from_slice(bytes);
+}
 
 // The most significant byte of each first.
-fn put_numbers(to: &mut impl Write, numbers: &[u32]) -> io::Result<()> {
-    for number in numbers {
-        to.write_all(&number.to_be_bytes())?;
+fn put_numbers(record: &mut [u8; 212], at: usize, numbers: &[u32])
+    requires { at + 4 * length numbers.now ≤ 212 }
+{
+    for (i, number) in numbers.iter().enumerate() {
+        put(record, at + 4 * i, &number.to_be_bytes());
     }
-    Ok(())
 }
 
 // Four numbers, key, nonce and tag, five numbers, state and session.
-fn put_record(to: &mut impl Write, job: Job) -> io::Result<()> {
+fn bytes_of(job: Job) -> [u8; 212] {
     let place = job.place;
-    put_numbers(to, &[job.instance, job.direction, job.assoc, job.text])?;
-    to.write_all(&job.key)?;
-    to.write_all(&job.nonce)?;
-    to.write_all(&job.tag)?;
+    let mut record = [0u8; 212];
     put_numbers(
-        to,
+        &mut record,
+        0,
+        &[job.instance, job.direction, job.assoc, job.text],
+    );
+    put(&mut record, 16, &job.key);
+    put(&mut record, 32, &job.nonce);
+    put(&mut record, 48, &job.tag);
+    put_numbers(
+        &mut record,
+        64,
         &[job.done, place.part, place.call, place.round, job.ending],
-    )?;
-    to.write_all(&job.state)?;
-    to.write_all(&job.session)
+    );
+    put(&mut record, 84, &job.state);
+    put(&mut record, 148, &job.session);
+    record
 }
 
-pub fn sum(job: Job) -> io::Result<u64> {
-    let mut record = [0u8; 212];
-    put_record(&mut &mut record[..], job)?;
-    Ok(checksum(&record))
+pub fn sum(job: Job) -> u64 {
+    checksum(&bytes_of(job))
 }
