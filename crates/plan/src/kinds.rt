@@ -61,7 +61,7 @@ fn encryption_calls(outline: Outline, kind: Kind) -> u32
 {
     match kind {
         Kind::KeyBits => 127,
-        Kind::Texts => blocks_of(outline),
+        Kind::Texts => blocks_of(outline.instance, outline.text),
         _ => 1,
     }
 }

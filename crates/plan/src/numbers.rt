@@ -82,18 +82,20 @@ pub fn verify_rounds(outline: Outline) -> u32
 
 // The blocks of a text, a last short one counted.
 #[tactic(auto, using(crate::proofs::Counting::blocks_is, instances::specs::Limits::blocks_most))]
-pub fn blocks_of(outline: Outline) -> u32
-    ensures { (result ≡ blocks (params_of outline.instance) outline.text) × (result ≤ most_text / 8) }
+pub fn blocks_of(instance: u32, m: u32) -> u32
+    requires { m ≤ most_text }
+    ensures { (result ≡ blocks (params_of instance) m) × (result ≤ most_text / 8) }
 {
-    let q = numbers_of(outline.instance);
-    (outline.text + (q.b - 1)) / q.b
+    let q = numbers_of(instance);
+    (m + (q.b - 1)) / q.b
 }
 
 // E
 #[tactic(auto, using(crate::proofs::Counting::encrypt_is))]
-pub fn encrypt_rounds(outline: Outline) -> u32
-    ensures { result ≡ encrypt_rounds (params_of outline.instance) outline.text }
+pub fn encrypt_rounds(instance: u32, m: u32) -> u32
+    requires { m ≤ most_text }
+    ensures { result ≡ encrypt_rounds (params_of instance) m }
 {
-    let q = numbers_of(outline.instance);
-    rekey_rounds(outline.instance) + q.se * blocks_of(outline)
+    let q = numbers_of(instance);
+    rekey_rounds(instance) + q.se * blocks_of(instance, m)
 }

@@ -84,7 +84,7 @@ impl Outline {
         }
         let v = verify_rounds(self);
         if self.sealing {
-            encrypt_rounds(self) + v
+            encrypt_rounds(self.instance, self.text) + v
         } else {
             v
         }
@@ -99,6 +99,6 @@ impl Outline {
         if is_spook(self.instance) {
             return walks::second_rounds(self);
         }
-        encrypt_rounds(self)
+        encrypt_rounds(self.instance, self.text)
     }
 }
